@@ -1,0 +1,19 @@
+//! Many-sorted terms, atoms, literals and formulas over a signature.
+//!
+//! `specs/` says what they mean: `Sorts` which sort fits which, `Sorting` which sort a term has,
+//! `Instance` what a term becomes under a list of terms. The crate rests on the kit alone.
+#![tactic(auto)]
+
+mod id;
+mod kind;
+mod name;
+mod signature;
+mod symbol;
+mod term;
+
+pub use id::{SortId, SymId};
+pub use kind::SymKind;
+pub use name::{Name, NoMemory};
+pub use signature::{Ctx, Signature};
+pub use symbol::Symbol;
+pub use term::{Atom, Formula, Literal, Term};
