@@ -8,6 +8,7 @@ mod id;
 mod kind;
 mod name;
 mod signature;
+mod spelling;
 mod symbol;
 mod term;
 
@@ -15,5 +16,6 @@ pub use id::{SortId, SymId};
 pub use kind::SymKind;
 pub use name::{Name, NoMemory};
 pub use signature::{Ctx, Signature};
+pub use spelling::{is_fortran_name, is_local_name, is_name};
 pub use symbol::Symbol;
 pub use term::{Atom, Formula, Literal, Term};

@@ -1,0 +1,45 @@
+-- Which declarations and statements there are: what the type of a unit keeps.
+use Rattle.std.specs.Prelude.{◌&&◌, ◌==◌, ℕ, Bool, true, false, not, List, [], ◌∷◌, length, nat_le}
+use Rattle.std.specs.List.{list_all}
+use Rattle.am_term.specs.Names.{is_fortran_name}
+use Rattle.am_fortran.specs.declared.statement.FortranType.{FortranType}
+use Rattle.am_fortran.specs.declared.statement.FortranType.TheVariants.{Double, Integer, Logical, Char, CharAny, DoubleVec, DoubleMat, IntegerVec}
+use Rattle.am_fortran.specs.declared.statement.Decl.{Decl}
+use Rattle.am_fortran.specs.declared.statement.Operand.{Operand}
+use Rattle.am_fortran.specs.declared.statement.Operand.TheVariants as operand
+use Rattle.am_fortran.specs.declared.statement.Statement.{Statement}
+use Rattle.am_fortran.specs.declared.statement.Statement.TheVariants.{Call, Assign, Apply}
+
+-- from least to most, both of them allowed
+abbrev pub is_between : ℕ → ℕ → ℕ → Bool
+is_between least most n = nat_le least n && nat_le n most
+
+-- a length is 1 to 1,024, an extent 1 to 1,000
+abbrev pub is_type : FortranType → Bool
+is_type Double = true
+is_type Integer = true
+is_type Logical = true
+is_type (Char n) = is_between 1 1024 n
+is_type CharAny = true
+is_type (DoubleVec m) = is_between 1 1000 m
+is_type (DoubleMat m n) = is_between 1 1000 m && is_between 1 1000 n
+is_type (IntegerVec m) = is_between 1 1000 m
+
+abbrev pub is_declaration : Decl → Bool
+is_declaration d = is_type d.ty && is_fortran_name d.name
+
+-- what may stand in a text: the printing characters but the apostrophe and the quotation mark
+abbrev pub is_text_byte : ℕ → Bool
+is_text_byte b = is_between 32 126 b && (not (b == 34) && not (b == 39))
+
+-- a text has 1 to 32 bytes
+abbrev pub is_operand : Operand → Bool
+is_operand (operand.Name n) = is_fortran_name n
+is_operand (operand.Int z) = true
+is_operand (operand.Text t) = list_all is_text_byte t && is_between 1 32 (length t)
+
+-- a call has 1 to 18 arguments, a function 0 to 12
+unfoldable pub is_statement : Statement → Bool
+is_statement (Call r args) = is_fortran_name r && (list_all is_operand args && is_between 1 18 (length args))
+is_statement (Assign t from) = is_fortran_name t && is_operand from
+is_statement (Apply t f args) = is_fortran_name t && (is_fortran_name f && (list_all is_operand args && nat_le (length args) 12))
