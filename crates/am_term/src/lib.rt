@@ -6,16 +6,20 @@
 
 mod id;
 mod kind;
+mod laws;
 mod name;
 mod signature;
+mod sorting;
 mod spelling;
 mod symbol;
 mod term;
 
 pub use id::{SortId, SymId};
 pub use kind::SymKind;
+pub use laws::{law_of_akin, law_of_fits};
 pub use name::{Name, NoMemory};
 pub use signature::{Ctx, Signature};
+pub use sorting::{akin, fits, well_sorted};
 pub use spelling::{is_fortran_name, is_local_name, is_name};
 pub use symbol::Symbol;
 pub use term::{Atom, Formula, Literal, Term};
