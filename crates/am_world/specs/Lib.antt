@@ -1,0 +1,3 @@
+pub mod Interpretation
+pub mod Truth
+pub mod Value
