@@ -1,6 +1,7 @@
 pub mod Fold
 pub mod Induct
 pub mod Instance
+pub mod NameLists
 pub mod Names
 pub mod Same
 pub mod Sorting
