@@ -1,5 +1,5 @@
 -- Going over the arguments of a term and their places.
-use Rattle.std.proofs.Common.{◌≡◌, ◌≢◌, ◌+◌, ◌&&◌, ℕ, suc, Bool, true, false, refl, ap, ◌∙◌, List, [], ◌∷◌, Option, length, arith}
+use Rattle.std.proofs.Common.{◌≡◌, ◌≢◌, ◌&&◌, suc, Bool, true, false, refl, ap, ◌∙◌, List, [], ◌∷◌, length}
 use Rattle.std.proofs.lemmas.Grind.{common_steps}
 use Rattle.std.proofs.lemmas.Bool.Decides.{nat_tests}
 use Rattle.am_term.specs.declared.id.SortId.{SortId}

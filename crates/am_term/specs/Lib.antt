@@ -1,9 +1,12 @@
 pub mod Fold
+pub mod FoldFormula
 pub mod Induct
+pub mod InductFormula
 pub mod Instance
 pub mod NameLists
 pub mod Names
 pub mod Same
 pub mod Sorting
 pub mod Sorts
+pub mod Span
 pub mod Symbols

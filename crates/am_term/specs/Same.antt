@@ -1,5 +1,6 @@
--- A test that tells whether two terms are one.
+-- Tests that tell whether two terms, atoms or literals are one.
 use Rattle.std.specs.Prelude.{◌≡◌, ◌&&◌, ◌==◌, ℕ, Bool, true, false, List, [], ◌∷◌, map}
+use Rattle.std.specs.Bool.{beq}
 use Rattle.std.proofs.Common.{ap}
 use Rattle.am_term.specs.declared.id.SortId.{SortId}
 use Rattle.am_term.specs.declared.id.SymId.{SymId}
@@ -8,6 +9,9 @@ use Rattle.am_term.specs.declared.term.Term.TheOpen.{Term-F}
 use Rattle.am_term.specs.declared.term.Term.TheViews.{out-Term}
 use Rattle.am_term.specs.declared.term.Term.TheVariants.{Var, In, App}
 use Rattle.am_term.specs.declared.term.Term.TheFolds.{fold-Term}
+use Rattle.am_term.specs.declared.term.Atom.{Atom}
+use Rattle.am_term.specs.declared.term.Atom.TheVariants.{Rel, Eq}
+use Rattle.am_term.specs.declared.term.Literal.{Literal}
 use Rattle.am_term.specs.Fold.{fold-Var, fold-In, fold-App}
 
 -- as many tests as terms, and each test passes its term
@@ -54,3 +58,18 @@ unfolding same_term
 same_term-App f args u = ap (λ (g : Term → Bool). g u) (fold-App (Term → Bool) same_step f args)
 
 pub ruleset same_laws = (same_term-Var, same_term-In, same_term-App)
+
+-- as many terms, and each is its partner
+abbrev pub same_terms : List Term → List Term → Bool
+same_terms ts us = all_pass (map same_term ts) us
+
+-- both are one relation at the same arguments, or equations with the same sides in the same order
+abbrev pub same_atom : Atom → Atom → Bool
+same_atom (Rel r ts) (Rel q us) = r.0 == q.0 && same_terms ts us
+same_atom (Rel r ts) (Eq left right) = false
+same_atom (Eq left right) (Rel q us) = false
+same_atom (Eq left right) (Eq first second) = same_term left first && same_term right second
+
+-- both have one sign and the same atom
+abbrev pub same_literal : Literal → Literal → Bool
+same_literal l m = beq l.positive m.positive && same_atom l.atom m.atom

@@ -1,6 +1,5 @@
 -- Which sort a term has, and which atoms, literals and formulas are well sorted.
 use Rattle.std.specs.Prelude.{◌≡◌, ◌&&◌, ℕ, Bool, true, false, Option, Some, None, List, [], ◌∷◌, map, length, slice_get, nat_lt, is_none, if◌then◌else◌}
-use Rattle.std.specs.List.{list_all}
 use Rattle.am_term.specs.declared.id.SortId.{SortId}
 use Rattle.am_term.specs.declared.id.SymId.{SymId}
 use Rattle.am_term.specs.declared.symbol.Symbol.{Symbol}

@@ -1,5 +1,5 @@
 -- Which sort fits which: sorts form a forest, and a sort fits those above it.
-use Rattle.std.specs.Prelude.{◌||◌, ◌==◌, ℕ, zero, suc, Bool, true, false, Option, Some, None, List, slice_get, nat_lt, if◌then◌else◌}
+use Rattle.std.specs.Prelude.{◌||◌, ◌==◌, ℕ, zero, suc, Bool, false, Option, Some, None, slice_get, nat_lt, if◌then◌else◌}
 use Rattle.am_term.specs.declared.id.SortId.{SortId}
 use Rattle.am_term.specs.declared.signature.Signature.{Signature}
 

@@ -1,9 +1,12 @@
 //! Many-sorted terms, atoms, literals and formulas over a signature.
 //!
 //! `specs/` says what they mean: `Sorts` which sort fits which, `Sorting` which sort a term has,
-//! `Instance` what a term becomes under a list of terms. The crate rests on the kit alone.
+//! `Instance` what a term becomes under a list of terms, `Span` how many terms that takes, `Same`
+//! when two are one. The crate rests on the kit alone.
 #![tactic(auto)]
 
+mod comparing;
+mod copying;
 mod id;
 mod kind;
 mod laws;
@@ -11,9 +14,12 @@ mod name;
 mod signature;
 mod sorting;
 mod spelling;
+mod substitution;
 mod symbol;
 mod term;
 
+pub use comparing::{same, same_atom, same_literal, same_terms};
+pub use copying::{copies, copy, copy_atom, copy_literal};
 pub use id::{SortId, SymId};
 pub use kind::SymKind;
 pub use laws::{law_of_akin, law_of_fits};
@@ -21,5 +27,6 @@ pub use name::{Name, NoMemory};
 pub use signature::{Ctx, Signature};
 pub use sorting::{akin, fits, well_sorted};
 pub use spelling::{is_fortran_name, is_local_name, is_name};
+pub use substitution::{is_covered, subst};
 pub use symbol::Symbol;
 pub use term::{Atom, Formula, Literal, Term};

@@ -1,4 +1,4 @@
-use Rattle.std.proofs.Common.{◌≡◌, drop, length}
+use Rattle.std.proofs.Common.{◌≡◌, drop}
 use Rattle.am_term.specs.Sorting.{fit_places, sorts_of}
 use Rattle.am_term.proofs.sorting.+sorting.Given as goal
 
