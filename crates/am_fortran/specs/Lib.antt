@@ -1,2 +1,3 @@
-pub mod Well
+pub mod Joined
 pub mod Text
+pub mod Well

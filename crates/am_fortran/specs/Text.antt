@@ -1,5 +1,5 @@
 -- The text of a unit, in the fixed form of ANSI X3.9-1978. The layout is this project's own.
-use Rattle.std.specs.Prelude.{◌+◌, ℕ, Bool, true, false, List, [], ◌∷◌, ◌++◌, length, nat_le, codes, map, if◌then◌else◌}
+use Rattle.std.specs.Prelude.{◌+◌, ℕ, List, [], ◌∷◌, ◌++◌, length, nat_le, codes, map, if◌then◌else◌}
 use Rattle.std.specs.List.{flat_map}
 use Rattle.std.specs.Fmt.{decimal, signed_decimal}
 use Rattle.am_fortran.specs.declared.statement.FortranType.{FortranType}

@@ -1,5 +1,5 @@
 -- Which declarations and statements there are: what the type of a unit keeps.
-use Rattle.std.specs.Prelude.{◌&&◌, ◌==◌, ℕ, Bool, true, false, not, List, [], ◌∷◌, length, nat_le}
+use Rattle.std.specs.Prelude.{◌&&◌, ◌==◌, ℕ, Bool, true, not, length, nat_le}
 use Rattle.std.specs.List.{list_all}
 use Rattle.am_term.specs.Names.{is_fortran_name}
 use Rattle.am_fortran.specs.declared.statement.FortranType.{FortranType}

@@ -6,6 +6,8 @@
 
 mod statement;
 mod unit;
+mod writing;
 
 pub use statement::{Decl, FortranType, Operand, Statement};
 pub use unit::Unit;
+pub use writing::write_unit;
