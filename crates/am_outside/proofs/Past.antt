@@ -1,26 +1,22 @@
 -- Numbers of calls that are past.
-use Rattle.std.proofs.Common.{◌≡◌, ◌==◌, ℕ, List, Vec, ◌+◌, ◌-◌, ◌^◌, ◌≤◌, min, arith, Bool, true, false, IsSome, refl}
-use Rattle.std.specs.Prelude.{Contains}
+use Rattle.std.proofs.Common.{◌≡◌, ◌==◌, ℕ, List, [], ◌∷◌, Vec, ◌+◌, ◌-◌, ◌^◌, ◌≤◌, min, arith, true, false, IsSome, refl}
 use Rattle.std.specs.List.{list_any}
 use Rattle.std.specs.declared.alloc.Global.{Global}
 use Rattle.std.proofs.lemmas.Bool.Decides.{nat_tests}
-use Rattle.std.proofs.lemmas.Map.Views.{Contains-from_any}
-use Rattle.am_outside.specs.Files.{AllPast, file_of, fails_at}
+use Rattle.am_outside.specs.Calls.{all_past}
+use Rattle.am_outside.specs.Files.{file_of, fails_at}
 
 -- what is past stays past
-pub all_past_later : (a b : ℕ) (listed : List ℕ) → a ≤ b → AllPast a listed → AllPast b listed
-all_past_later a b listed le past = record { each = λ k at. let p = past.each k at in (omega arith, p.1) }
-
--- a number that a test finds is in the list
-contains_found : (listed : List ℕ) (call : ℕ) → list_any (λ number. number == call) listed ≡ true → Contains listed call
-contains_found listed call found = Contains-from_any {eq = λ call number. number == call} (λ x y e. grind (arith, nat_tests)) call listed found
+pub all_past_later : (a b : ℕ) (listed : List ℕ) → a ≤ b → all_past a listed ≡ true → all_past b listed ≡ true
+all_past_later a b [] le past = refl
+all_past_later a b (n ∷ ns) le past = grind (arith, nat_tests, all_past_later a b ns le)
 
 -- the next call isn't listed
-not_listed_at : (b : Bool) (a : ℕ) (listed : List ℕ) → list_any (λ number. number == min (a + 1) (2 ^ 64 - 1)) listed ≡ b → AllPast a listed → b ≡ false
-not_listed_at false a listed e past = refl
-not_listed_at true a listed e past = let p = past.each _ (contains_found listed _ e) in absurd (omega arith)
+next_not_listed : (a : ℕ) (listed : List ℕ) → all_past a listed ≡ true → list_any (λ number. number == min (a + 1) (2 ^ 64 - 1)) listed ≡ false
+next_not_listed a [] past = refl
+next_not_listed a (n ∷ ns) past = grind (arith, nat_tests, next_not_listed a ns)
 
 -- a fetch of a name that is sure doesn't fail
-pub sure_succeeds : (files : List (List ℕ × Vec ℕ Global)) (a : ℕ) (listed name : List ℕ) → IsSome (file_of files name) → AllPast a listed
+pub sure_succeeds : (files : List (List ℕ × Vec ℕ Global)) (a : ℕ) (listed name : List ℕ) → IsSome (file_of files name) → all_past a listed ≡ true
     → fails_at files listed (min (a + 1) (2 ^ 64 - 1)) name ≡ false
-sure_succeeds files a listed name there past = let e : list_any (λ number. number == min (a + 1) (2 ^ 64 - 1)) listed ≡ false = not_listed_at _ a listed refl past in rw e (grind arith)
+sure_succeeds files a listed name there past = rw (next_not_listed a listed past) (grind arith)

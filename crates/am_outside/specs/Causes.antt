@@ -1,9 +1,5 @@
--- Counts of calls and of faults.
+-- Faults as a cause.
 use Rattle.std.specs.Prelude.{ℕ, ◌+◌, ◌-◌, ◌^◌, ◌≤◌, min}
-
--- a count of 64 bits after one more, which stays at its last value
-abbrev pub counted : ℕ → ℕ
-counted before = min (before + 1) (2 ^ 64 - 1)
 
 -- a count of faults rose, or stands at the last value of 64 bits
 abbrev pub Rose : ℕ → ℕ → Type 0

@@ -1,5 +1,5 @@
--- Files by name in memory, and calls that are planned to fail.
-use Rattle.std.specs.Prelude.{ℕ, ◌==◌, ◌-◌, ◌^◌, ◌<◌, ◌≤◌, Bool, ◌||◌, List, Option, Vec, Contains, is_none}
+-- Files by name in memory.
+use Rattle.std.specs.Prelude.{ℕ, ◌==◌, Bool, ◌||◌, List, Option, Vec, is_none}
 use Rattle.std.specs.declared.alloc.Global.{Global}
 use Rattle.std.specs.List.{find, list_any}
 use Rattle.std.specs.Option.{option_map}
@@ -12,8 +12,3 @@ file_of files name = option_map (λ file. file.1.items) (find (λ file. bytes_eq
 -- whether a call of this number for this name fails: the number is listed, or the name isn't there
 abbrev pub fails_at : List (List ℕ × Vec ℕ Global) → List ℕ → ℕ → List ℕ → Bool
 fails_at files listed call name = list_any (λ number. number == call) listed || is_none (file_of files name)
-
--- No listed number names a call that is still to come, after so many calls. The last number of 64 bits
--- always counts as still to come.
-pub record AllPast (calls : ℕ) (listed : List ℕ) : Type 0 where
-  pub each : (number : ℕ) → Contains listed number → (number ≤ calls) × (number < 2 ^ 64 - 1)

@@ -1,7 +1,8 @@
 -- What a page in memory takes of the bytes that are put to it.
-use Rattle.std.specs.Prelude.{ℕ, ◌==◌, ◌-◌, ◌^◌, min, Bool, ◌&&◌, cond, nat_lt, nat_le, List, length, take, Option, None, Some}
-use Rattle.std.specs.List.{find, list_all}
+use Rattle.std.specs.Prelude.{ℕ, ◌==◌, ◌-◌, min, cond, nat_lt, List, length, take, map, Option, None, Some}
+use Rattle.std.specs.List.{find}
 use Rattle.std.specs.Option.{option_map}
+use Rattle.am_outside.specs.Calls.{all_past}
 
 -- how many bytes are planned for the call of this number, by the first pair that names it
 abbrev pub planned : List (ℕ × ℕ) → ℕ → Option ℕ
@@ -18,12 +19,7 @@ abbrev pub up_to : Option ℕ → List ℕ → List ℕ
 up_to (Some count) bytes = take count bytes
 up_to None bytes = bytes
 
--- No pair names a call that is still to come, after so many calls. The last number of 64 bits always
--- counts as still to come.
-abbrev pub all_past : ℕ → List (ℕ × ℕ) → Bool
-all_past calls pairs = list_all (λ pair. nat_le pair.0 calls && nat_lt pair.0 (2 ^ 64 - 1)) pairs
-
 -- How many bytes can still be put without a failure: the room that is left, where no failure is
 -- planned any more, else 0.
 abbrev pub sure_bytes : ℕ → ℕ → ℕ → List (ℕ × ℕ) → ℕ
-sure_bytes held room calls pairs = cond (all_past calls pairs) (room - held) 0
+sure_bytes held room calls pairs = cond (all_past calls (map (λ pair. pair.0) pairs)) (room - held) 0

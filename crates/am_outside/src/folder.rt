@@ -1,4 +1,5 @@
-ghost use Rattle.std.specs.Prelude.{◌≡◌, ◌≢◌, ◌<◌, ◌≤◌, [], None, length};
+ghost use Rattle.std.specs.Prelude.{◌≡◌, ◌≢◌, ◌+◌, ◌<◌, ◌≤◌, [], None, length};
+ghost use Rattle.am_outside.specs.Calls.{counted};
 ghost use Rattle.am_outside.specs.Growth.{WhereTold};
 
 use crate::answer::Fetched;
@@ -32,7 +33,15 @@ impl<R: Files> Library for Folder<'_, R> {
 
     ghost faults = { λ folder. folder.faults };
 
-    fn fetch(&mut self, name: &str, limit: usize, into: &mut Vec<u8>) -> Fetched {
+    fn fetch(&mut self, name: &str, limit: usize, into: &mut Vec<u8>) -> Fetched
+        requires empty { into.old.items ≡ [] }
+        requires small { limit ≤ 16777216 }
+        ensures fits { result ≡ Fetched.Done → length into.new.items ≤ limit }
+        ensures emptied { result ≢ Fetched.Done → into.new.items ≡ [] }
+        ensures counts { result ≡ Fetched.Failed → self.new.faults ≡ counted self.old.faults }
+        ensures none_counted { result ≢ Fetched.Failed → self.new.faults ≡ self.old.faults }
+        ensures later { self.old.faults ≤ self.new.faults }
+    {
         let fetched = read_path(self.rt, name, limit, into);
         match fetched {
             Fetched::Done => return Fetched::Done,
@@ -56,12 +65,13 @@ fn read_path<R: Files>(rt: &R, path: &str, limit: usize, into: &mut Vec<u8>) -> 
     }
 }
 
-/// Reads to the end, and at most one byte more than `limit`.
+/// Reads to the end, and at most one byte more than `limit`, which is then too long.
 pub(crate) fn read_some<F: Read>(file: &mut F, limit: usize, into: &mut Vec<u8>) -> Fetched
     requires empty { into.old.items ≡ [] }
     requires small { limit ≤ 16777216 }
     ensures fits { result ≡ Fetched.Done → length into.new.items ≤ limit }
     ensures bytes { result ≡ Fetched.Done → WhereTold (F.remaining file.old) (λ b. into.new.items ≡ b) }
+    ensures one_more { result ≡ Fetched.TooLong → length into.new.items ≡ limit + 1 }
     ensures too_long { result ≡ Fetched.TooLong → WhereTold (F.remaining file.old) (λ b. limit < length b) }
 {
     let mut buffer = [0u8; 4096];

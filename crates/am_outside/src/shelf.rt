@@ -1,8 +1,8 @@
 ghost use Rattle.std.specs.Prelude.{◌≡◌, ◌≢◌, ◌↔◌, ◌<◌, ◌≤◌, ◌==◌, ℕ, List, [], Option, None, Some, Bool, cond, IsSome, IsTrue, length};
 ghost use Rattle.std.specs.List.{list_any};
 ghost use Rattle.std.specs.Option.{option_map};
-ghost use Rattle.am_outside.specs.Causes.{Rose, counted};
-ghost use Rattle.am_outside.specs.Files.{file_of, fails_at, AllPast};
+ghost use Rattle.am_outside.specs.Calls.{all_past, counted};
+ghost use Rattle.am_outside.specs.Files.{file_of, fails_at};
 ghost use Rattle.am_outside.specs.Growth.{WhereTold};
 
 use crate::answer::Fetched;
@@ -36,7 +36,7 @@ impl Shelf {
 impl Library for Shelf {
     ghost told = { λ shelf name. file_of shelf.files.items name };
 
-    ghost sure = { λ shelf name. IsSome (file_of shelf.files.items name) × AllPast shelf.calls shelf.fail.items };
+    ghost sure = { λ shelf name. IsSome (file_of shelf.files.items name) × IsTrue (all_past shelf.calls shelf.fail.items) };
 
     ghost faults = { λ shelf. shelf.faults };
 
@@ -56,8 +56,8 @@ impl Library for Shelf {
         ensures files_stay { self.new.files ≡ self.old.files }
         ensures fail_stays { self.new.fail ≡ self.old.fail }
         ensures later { self.old.faults ≤ self.new.faults }
-        ensures sure { IsSome (file_of self.old.files.items name.now) × AllPast self.old.calls self.old.fail.items → result ≢ Fetched.Failed }
-        ensures sure_stays { (n : List ℕ) → IsSome (file_of self.old.files.items n) × AllPast self.old.calls self.old.fail.items → IsSome (file_of self.new.files.items n) × AllPast self.new.calls self.new.fail.items }
+        ensures sure { IsSome (file_of self.old.files.items name.now) × IsTrue (all_past self.old.calls self.old.fail.items) → result ≢ Fetched.Failed }
+        ensures sure_stays { (n : List ℕ) → IsSome (file_of self.old.files.items n) × IsTrue (all_past self.old.calls self.old.fail.items) → IsSome (file_of self.new.files.items n) × IsTrue (all_past self.new.calls self.new.fail.items) }
     {
         self.calls = self.calls.saturating_add(1);
         match file_at(&self.files, &self.fail, self.calls, name) {

@@ -1,5 +1,5 @@
 ghost use Rattle.std.specs.Prelude.{◌≡◌, ◌+◌, ◌<◌, ◌≤◌, ℕ, List, Option, None, IsTrue, take, length};
-ghost use Rattle.am_outside.specs.Causes.{Rose, counted};
+ghost use Rattle.am_outside.specs.Calls.{counted};
 ghost use Rattle.am_outside.specs.Growth.{Grows, GrowsByPart};
 ghost use Rattle.std.specs.Io.KnownBytes.{Appends};
 
@@ -40,9 +40,9 @@ impl<W: Write> Sink for Stream<W> {
     fn put(&mut self, bytes: &[u8]) -> Put
         ensures writes { result ≡ Put.Done → Appends (W.contents self.old.writer) (W.contents self.new.writer) bytes.now }
         ensures writes_part { (n : ℕ) × Appends (W.contents self.old.writer) (W.contents self.new.writer) (take n bytes.now) }
+        ensures counts { result ≡ Put.Failed → self.new.faults ≡ counted self.old.faults }
         ensures none_counted { result ≡ Put.Done → self.new.faults ≡ self.old.faults }
         ensures later { self.old.faults ≤ self.new.faults }
-        ensures counts { result ≡ Put.Failed → self.new.faults ≡ counted self.old.faults }
     {
         if write_each(&mut self.writer, bytes) {
             return Put::Done;
