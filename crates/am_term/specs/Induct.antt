@@ -28,3 +28,10 @@ module _ (P : Term → Type 0) (Q : List Term → Type 0)
   pub terms_induct : (ts : List Term) → Q ts
   terms_induct [] = none
   terms_induct (t ∷ ts) = more t ts (term_induct t) (terms_induct ts)
+
+-- the cases of a term
+module _ (P : Term → Type 0)
+    (var : (n : ℕ) (s : SortId) → P (Var n s)) (inp : (k : ℕ) → P (In k))
+    (app : (f : SymId) (args : List Term) → P (App f args)) where
+  pub term_cases : (t : Term) → P t
+  term_cases = term_induct P (λ ts. Unit {0}) var inp (λ f args h. app f args) tt (λ t ts h k. tt)

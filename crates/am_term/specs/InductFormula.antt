@@ -34,3 +34,11 @@ module _ (P : Formula → Type 0) (Q : List Formula → Type 0)
   pub formulas_induct : (fs : List Formula) → Q fs
   formulas_induct [] = none
   formulas_induct (f ∷ fs) = more f fs (formula_induct f) (formulas_induct fs)
+
+-- the cases of a formula
+module _ (P : Formula → Type 0)
+    (atom : (a : Atom) → P (Atomic a)) (negated : (f : Formula) → P (Not f))
+    (every : (fs : List Formula) → P (And fs)) (some : (fs : List Formula) → P (Or fs))
+    (implied : (f g : Formula) → P (Implies f g)) (equal : (f g : Formula) → P (Iff f g)) where
+  pub formula_cases : (f : Formula) → P f
+  formula_cases = formula_induct P (λ fs. Unit {0}) atom (λ f h. negated f) (λ fs h. every fs) (λ fs h. some fs) (λ f g h k. implied f g) (λ f g h k. equal f g) tt (λ f fs h k. tt)

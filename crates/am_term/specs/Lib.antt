@@ -11,4 +11,5 @@ pub mod Sorting
 pub mod Sorts
 pub mod Span
 pub mod Symbols
+pub mod Variables
 pub mod Weight

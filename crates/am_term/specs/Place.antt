@@ -1,5 +1,5 @@
 -- Places in a term: a path goes down from it, each step the number of an argument, from 1.
-use Rattle.std.specs.Prelude.{◌≡◌, ◌-◌, ℕ, zero, suc, List, [], ◌∷◌, Option, Some, None, slice_get, slice_set, option_map, option_and_then}
+use Rattle.std.specs.Prelude.{◌≡◌, ◌≢◌, ◌++◌, ℕ, zero, suc, List, [], ◌∷◌, Option, Some, None, slice_get, slice_set, option_map, option_and_then}
 use Rattle.std.proofs.Common.{ap}
 use Rattle.am_term.specs.declared.id.SortId.{SortId}
 use Rattle.am_term.specs.declared.id.SymId.{SymId}
@@ -15,7 +15,8 @@ member xs (suc i) = slice_get xs i
 
 -- the list with another member at that number
 abbrev pub with_member : {A : Type 0} → List A → ℕ → A → List A
-with_member xs k x = slice_set xs (k - 1) x
+with_member xs zero x = xs
+with_member xs (suc i) x = slice_set xs i x
 
 abbrev pub args_at : Term-F Term → List Term
 args_at (Term-F.Var n s) = []
@@ -44,6 +45,10 @@ place (k ∷ path) t = option_and_then (place path) (member (args_of t) k)
 abbrev pub replaced : Term → List ℕ → Term → Option Term
 replaced new [] t = Some new
 replaced new (k ∷ path) t = option_map (with_arg t k) (option_and_then (replaced new path) (member (args_of t) k))
+
+-- neither path goes on from the other
+abbrev pub AreDisjoint : List ℕ → List ℕ → Type 0
+AreDisjoint p q = ((rest : List ℕ) → p ++ rest ≢ q) × ((rest : List ℕ) → q ++ rest ≢ p)
 
 pub args_of-Var : (n : ℕ) (s : SortId) → args_of (Var n s) ≡ []
 unfolding args_of

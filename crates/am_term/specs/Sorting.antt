@@ -1,5 +1,5 @@
 -- Which sort a term has, and which atoms, literals and formulas are well sorted.
-use Rattle.std.specs.Prelude.{◌≡◌, ◌&&◌, ℕ, Bool, true, false, Option, Some, None, List, [], ◌∷◌, map, length, slice_get, nat_lt, is_none, if◌then◌else◌}
+use Rattle.std.specs.Prelude.{◌≡◌, ◌&&◌, ℕ, Bool, true, false, Option, Some, None, List, [], ◌∷◌, map, length, slice_get, nat_lt, is_none, if◌then◌else◌, IsTrue}
 use Rattle.am_term.specs.declared.id.SortId.{SortId}
 use Rattle.am_term.specs.declared.id.SymId.{SymId}
 use Rattle.am_term.specs.declared.symbol.Symbol.{Symbol}
@@ -12,7 +12,9 @@ use Rattle.am_term.specs.declared.term.Atom.{Atom}
 use Rattle.am_term.specs.declared.term.Atom.TheVariants.{Rel, Eq}
 use Rattle.am_term.specs.declared.term.Literal.{Literal}
 use Rattle.am_term.specs.Fold.{fold-Var, fold-In, fold-App}
+use Rattle.am_term.specs.Instance.{instance}
 use Rattle.am_term.specs.Sorts.{fits, akin}
+use Rattle.am_term.specs.Variables.{occurs}
 
 -- a sort is there, and fits the place
 abbrev pub fits_place : Signature → Option SortId → SortId → Bool
@@ -77,3 +79,11 @@ is_sorted_atom sig ins (Eq left right) = are_akin sig (sort_of sig ins left) (so
 
 abbrev pub is_sorted_literal : Signature → List SortId → Literal → Bool
 is_sorted_literal sig ins l = is_sorted_atom sig ins l.atom
+
+-- the term has a sort, and that fits s
+abbrev pub term_fits : Signature → List SortId → Term → SortId → Bool
+term_fits sig ins t s = fits_place sig (sort_of sig ins t) s
+
+-- each variable that occurs in the term becomes, in its instance, a term whose sort fits that of the variable
+abbrev pub KeepsSorts : Signature → List SortId → List Term → Term → Type 0
+KeepsSorts sig ins with t = (n : ℕ) (s : SortId) → IsTrue (occurs n s t) → IsTrue (term_fits sig ins (instance with (Var n s)) s)

@@ -25,7 +25,9 @@ pub use comparing::{same, same_atom, same_literal, same_terms};
 pub use copying::{copies, copy, copy_atom, copy_literal};
 pub use id::{SortId, SymId};
 pub use kind::SymKind;
-pub use laws::{law_of_akin, law_of_fits};
+pub use laws::{
+    law_of_akin, law_of_fits, law_of_instances, law_of_places, law_of_sorts, law_of_span,
+};
 pub use name::{Name, NoMemory};
 pub use places::{at, put_at};
 pub use signature::{Ctx, Signature};
