@@ -1,9 +1,9 @@
 //! Many-sorted terms, atoms, literals and formulas over a signature.
 //!
 //! `specs/` says what they mean: `Sorts` which sort fits which, `Sorting` which sort a term has,
-//! `Instance` what a term becomes under a list of terms, `Span` how many terms that takes, `Place`
-//! which part stands at a path, `Weight` how large a term is, `Same` when two are one. The crate
-//! rests on the kit alone.
+//! `Variables` which variables occur in it, `Span` how many terms an instance takes, `Instance` what it
+//! is, `Place` which part stands at a path, `Weight` how large a term is, `Same` when two are one. The
+//! crate rests on the kit alone.
 #![tactic(auto)]
 
 mod comparing;
