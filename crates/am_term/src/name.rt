@@ -1,4 +1,4 @@
-ghost use Rattle.std.specs.Prelude.{◌≡◌, IfOk};
+ghost use Rattle.std.specs.Prelude.{◌≡◌, ◌<◌, ◌++◌, ◌∷◌, [], IfOk, OnOk};
 
 use std::alloc::{AllocError, AllocFailed, Global};
 use std::marker::Model;
@@ -41,6 +41,24 @@ impl Name {
     {
         let text = String::from_str(alloc, text)?;
         Ok(Name { text })
+    }
+
+    /// The name of no bytes. Takes no memory.
+    pub fn empty(alloc: Global) -> Name
+        ensures { result ≡ [] }
+    {
+        Name {
+            text: String::new(alloc),
+        }
+    }
+
+    /// Adds an ASCII byte at the end.
+    pub fn push(&mut self, byte: u8) -> Result<(), NoMemory>
+        requires { byte < 128 }
+        ensures { OnOk result (self.new ≡ self.old ++ byte ∷ []) }
+    {
+        self.text.push(byte as char)?;
+        Ok(())
     }
 
     /// The text of the name. Takes no memory.

@@ -1,0 +1,3 @@
+pub mod FormInduct
+pub mod Steps
+pub mod Numbers

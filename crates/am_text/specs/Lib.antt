@@ -1,0 +1,4 @@
+pub mod Bytes
+pub mod Atoms
+pub mod Answers
+pub mod Scan

@@ -1,0 +1,19 @@
+//! Text forms: words, numbers, quoted texts and lists of these, their reader and their writer.
+//!
+//! `specs/Grammar.antt` says which forms some bytes are, `specs/Scan.antt` what the first fault is,
+//! `specs/Spelling.antt` how a form is written. The format is this project's own. The crate takes
+//! names from `am_term`.
+#![tactic(auto)]
+
+mod atom;
+mod bytes;
+mod fault;
+mod form;
+mod limits;
+mod reading;
+mod scan;
+
+pub use fault::{TextFault, TextKind};
+pub use form::{Form, FormNode};
+pub use limits::TextLimits;
+pub use reading::read_forms;

@@ -1,0 +1,304 @@
+ghost use Rattle.std.specs.Prelude.{◌≡◌, ◌<◌, ◌≤◌, ◌^◌, length};
+ghost use Rattle.am_text.specs.Answers.{Gives, IsAnswer};
+ghost use Rattle.am_text.specs.Scan.{held, state, closed, between, ended_word, in_word, in_text, step, run, finished, ended, start, read};
+
+use crate::atom::atom;
+use crate::bytes::{is_blank, is_text_byte, is_word_byte};
+use crate::fault::{ReadError, TextFault, TextKind};
+use crate::form::{Form, FormNode};
+use crate::limits::TextLimits;
+use crate::scan::{Lists, Mode, Open, Scan};
+use am_term::Name;
+use sqlite_items::Items;
+use std::alloc::Global;
+
+/// The scan after a `)`.
+#[tactic(auto, unfolding(crate::specs::Scan::closed), using(crate::proofs::Steps::scan_laws))]
+fn close(lists: Lists, place: u32) -> Result<Scan, ReadError>
+    ensures { Gives state result (closed place (held lists)) }
+{
+    let Lists { mut outer, forms } = lists;
+    let Some(open) = outer.pop() else {
+        return Err(ReadError::at(place, TextKind::Unopened));
+    };
+    let node = FormNode::List(forms);
+    let mut forms = open.before;
+    forms.push(Form {
+        place: open.place,
+        node,
+    })?;
+    Ok(Scan {
+        mode: Mode::Between,
+        lists: Lists { outer, forms },
+    })
+}
+
+/// The scan after a byte between forms.
+#[tactic(auto, unfolding(crate::specs::Scan::between), using(crate::proofs::Steps::scan_laws))]
+fn between(
+    alloc: Global,
+    depth: u32,
+    lists: Lists,
+    place: u32,
+    byte: u8,
+) -> Result<Scan, ReadError>
+    ensures { Gives state result (between depth place byte (held lists)) }
+{
+    if is_blank(byte) {
+        return Ok(Scan {
+            mode: Mode::Between,
+            lists,
+        });
+    }
+    if byte == b';' {
+        return Ok(Scan {
+            mode: Mode::Comment,
+            lists,
+        });
+    }
+    if byte == b'(' {
+        let Lists { mut outer, forms } = lists;
+        if outer.len() >= depth as usize {
+            return Err(ReadError::at(place, TextKind::TooDeep));
+        }
+        outer.push(Open {
+            place,
+            before: forms,
+        })?;
+        let lists = Lists {
+            outer,
+            forms: Items::new(alloc),
+        };
+        return Ok(Scan {
+            mode: Mode::Between,
+            lists,
+        });
+    }
+    if byte == b')' {
+        return close(lists, place);
+    }
+    if byte == b'"' {
+        let bytes = Name::empty(alloc);
+        return Ok(Scan {
+            mode: Mode::Text { place, bytes },
+            lists,
+        });
+    }
+    if is_word_byte(byte) {
+        let mut bytes = Name::empty(alloc);
+        bytes.push(byte)?;
+        return Ok(Scan {
+            mode: Mode::Word { place, bytes },
+            lists,
+        });
+    }
+    Err(ReadError::at(place, TextKind::BadByte))
+}
+
+/// The lists after the end of a word.
+#[tactic(auto, unfolding(crate::specs::Scan::ended_word), using(crate::proofs::Steps::scan_laws))]
+fn end_word(lists: Lists, start: u32, word: Name) -> Result<Lists, ReadError>
+    ensures { Gives held result (ended_word start word (held lists)) }
+{
+    let Some(node) = atom(word) else {
+        return Err(ReadError::at(start, TextKind::BadAtom));
+    };
+    let Lists { outer, mut forms } = lists;
+    forms.push(Form { place: start, node })?;
+    Ok(Lists { outer, forms })
+}
+
+/// The scan after a byte behind a word's byte.
+#[tactic(auto, unfolding(crate::specs::Scan::in_word), using(crate::proofs::Steps::scan_laws))]
+fn in_word(
+    alloc: Global,
+    depth: u32,
+    lists: Lists,
+    start: u32,
+    word: Name,
+    place: u32,
+    byte: u8,
+) -> Result<Scan, ReadError>
+    ensures { Gives state result (in_word depth start word place byte (held lists)) }
+{
+    if is_word_byte(byte) {
+        if word.as_str().len() == 48 {
+            return Err(ReadError::at(start, TextKind::BadAtom));
+        }
+        let mut bytes = word;
+        bytes.push(byte)?;
+        return Ok(Scan {
+            mode: Mode::Word {
+                place: start,
+                bytes,
+            },
+            lists,
+        });
+    }
+    let lists = end_word(lists, start, word)?;
+    between(alloc, depth, lists, place, byte)
+}
+
+/// The scan after a byte inside a text.
+#[tactic(auto, unfolding(crate::specs::Scan::in_text), using(crate::proofs::Steps::scan_laws))]
+fn in_text(
+    lists: Lists,
+    start: u32,
+    text: Name,
+    place: u32,
+    byte: u8,
+) -> Result<Scan, ReadError>
+    ensures { Gives state result (in_text start text place byte (held lists)) }
+{
+    if byte == b'"' {
+        let Lists { outer, mut forms } = lists;
+        let node = FormNode::Text(text);
+        forms.push(Form { place: start, node })?;
+        return Ok(Scan {
+            mode: Mode::Between,
+            lists: Lists { outer, forms },
+        });
+    }
+    if is_text_byte(byte) {
+        if text.as_str().len() == 255 {
+            return Err(ReadError::at(start, TextKind::BadAtom));
+        }
+        let mut bytes = text;
+        bytes.push(byte)?;
+        return Ok(Scan {
+            mode: Mode::Text {
+                place: start,
+                bytes,
+            },
+            lists,
+        });
+    }
+    Err(ReadError::at(place, TextKind::BadByte))
+}
+
+/// The scan after the byte at the place.
+#[tactic(auto, unfolding(crate::specs::Scan::step), using(crate::proofs::Steps::scan_laws))]
+fn step(
+    alloc: Global,
+    depth: u32,
+    scan: Scan,
+    place: u32,
+    byte: u8,
+) -> Result<Scan, ReadError>
+    ensures { Gives state result (step depth place byte (state scan)) }
+{
+    let Scan { mode, lists } = scan;
+    match mode {
+        Mode::Between => between(alloc, depth, lists, place, byte),
+        Mode::Word {
+            place: start,
+            bytes,
+        } => in_word(alloc, depth, lists, start, bytes, place, byte),
+        Mode::Text {
+            place: start,
+            bytes,
+        } => in_text(lists, start, bytes, place, byte),
+        Mode::Comment => {
+            if byte == b'\n' {
+                return Ok(Scan {
+                    mode: Mode::Between,
+                    lists,
+                });
+            }
+            Ok(Scan {
+                mode: Mode::Comment,
+                lists,
+            })
+        }
+    }
+}
+
+/// The forms, where the bytes end at the place, between forms.
+#[tactic(auto, using(crate::proofs::Steps::scan_laws))]
+fn end(lists: Lists, place: u32) -> Result<Items<Form>, ReadError>
+    ensures { Gives (λ forms. forms) result (ended place (held lists)) }
+{
+    if !lists.outer.is_empty() {
+        return Err(ReadError::at(place, TextKind::Unclosed));
+    }
+    Ok(lists.forms)
+}
+
+/// The forms, where the bytes end at the place.
+#[tactic(auto, unfolding(crate::specs::Scan::finished), using(crate::proofs::Steps::scan_laws))]
+fn finish(scan: Scan, place: u32) -> Result<Items<Form>, ReadError>
+    ensures { Gives (λ forms. forms) result (finished place (state scan)) }
+{
+    let Scan { mode, lists } = scan;
+    match mode {
+        Mode::Between => end(lists, place),
+        Mode::Word {
+            place: start,
+            bytes,
+        } => {
+            let lists = end_word(lists, start, bytes)?;
+            end(lists, place)
+        }
+        Mode::Text { .. } => Err(ReadError::at(place, TextKind::Unclosed)),
+        Mode::Comment => end(lists, place),
+    }
+}
+
+/// The scan after all bytes.
+#[tactic(auto, using(crate::proofs::Steps::run_laws))]
+fn run(alloc: Global, depth: u32, bytes: &[u8]) -> Result<Scan, ReadError>
+    requires { length bytes.now < 2 ^ 32 }
+    ensures { Gives state result (run depth 0 bytes.now start) }
+{
+    let lists = Lists {
+        outer: Items::new(alloc),
+        forms: Items::new(alloc),
+    };
+    let mut scan = Scan {
+        mode: Mode::Between,
+        lists,
+    };
+    for i in 0..bytes.len() {
+        scan = step(alloc, depth, scan, i as u32, bytes[i])?;
+    }
+    Ok(scan)
+}
+
+#[tactic(auto, unfolding(crate::specs::Scan::read), using(crate::proofs::Steps::scan_laws))]
+fn forms(alloc: Global, bytes: &[u8], limits: TextLimits) -> Result<Items<Form>, ReadError>
+    ensures { Gives (λ forms. forms) result (read limits.bytes limits.depth bytes.now) }
+{
+    if bytes.len() > limits.bytes as usize {
+        return Err(ReadError::at(limits.bytes, TextKind::TooLong));
+    }
+    let scan = run(alloc, limits.depth, bytes)?;
+    finish(scan, bytes.len() as u32)
+}
+
+/// `read_forms`, by the scan alone.
+fn answer(alloc: Global, bytes: &[u8], limits: TextLimits) -> Result<Items<Form>, TextFault>
+    ensures { IsAnswer result (read limits.bytes limits.depth bytes.now) }
+{
+    match forms(alloc, bytes, limits) {
+        Ok(forms) => Ok(forms),
+        Err(ReadError::Memory) => Err(TextFault {
+            place: 0,
+            kind: TextKind::NoMemory,
+        }),
+        Err(ReadError::Fault(fault)) => Err(fault),
+    }
+}
+
+/// The forms that the bytes are, or their first fault: each form with the offset of its first byte,
+/// each fault with the offset where it is met. `NoMemory` may come for any bytes. The format is this
+/// project's own.
+pub fn read_forms(
+    alloc: Global,
+    bytes: &[u8],
+    limits: TextLimits,
+) -> Result<Items<Form>, TextFault>
+    // The forms or the first fault, by the scan.
+    ensures exact { IsAnswer result (read limits.bytes limits.depth bytes.now) }
+{
+    answer(alloc, bytes, limits)
+}
