@@ -1,3 +1,6 @@
+pub mod Folds
 pub mod FormInduct
 pub mod Steps
 pub mod Numbers
+pub mod AtomKinds
+pub mod Found

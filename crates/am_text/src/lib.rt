@@ -9,11 +9,13 @@ mod atom;
 mod bytes;
 mod fault;
 mod form;
+mod laws;
 mod limits;
 mod reading;
 mod scan;
 
 pub use fault::{TextFault, TextKind};
 pub use form::{Form, FormNode};
+pub use laws::what_is_read;
 pub use limits::TextLimits;
 pub use reading::read_forms;
