@@ -4,3 +4,5 @@ pub mod Steps
 pub mod Numbers
 pub mod AtomKinds
 pub mod Found
+pub mod Runs
+pub mod Converse
