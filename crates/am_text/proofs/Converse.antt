@@ -13,7 +13,7 @@ use Rattle.am_text.specs.Bytes.{is_blank, is_word_byte, is_text_byte, is_line_by
 use Rattle.am_text.specs.Atoms.{atom_of}
 use Rattle.am_text.specs.Answers.{◌>>=◌}
 use Rattle.am_text.specs.Scan.{Held, State, in_mode, with_form, ended_word, step, run, finished, ended, start, read}
-use Rattle.am_text.specs.Grammar.{Reads, End, Blank, Nest, Atom, Quoted, EndsWord, EndsLine, form, height, highest}
+use Rattle.am_text.specs.Grammar.{Reads, End, Blank, Nest, Atom, Quoted, EndsWord, EndsLine, ReadsWithin, form, height, highest}
 use Rattle.am_text.specs.Grammar.{Comment as Remark}
 use Rattle.am_text.proofs.Folds.{height-List, height-form}
 use Rattle.am_text.proofs.Runs.{step_on, word_begins, word_on, word_ends, quote_begins, text_on, blank_goes, comment_begins, comment_on, comment_ends, inner, after, opens, closes}
@@ -117,18 +117,18 @@ module _ (depth total : ℕ) where
   unfolding run finished
   all_read p fs = refl
 
-pub read_again : (limit depth : ℕ) (bytes : List ℕ) (fs : List Form) → Reads true 0 bytes fs → highest fs ≤ depth → length bytes ≤ limit → read limit depth bytes ≡ forms_read fs
+pub read_again : (limit depth : ℕ) (bytes : List ℕ) (fs : List Form) → ReadsWithin limit depth bytes fs → read limit depth bytes ≡ forms_read fs
 unfolding read
-read_again limit depth bytes fs r low fits =
-    let whole = again depth (length bytes) true 0 bytes fs r (record { outer = []; forms = [] }) [] refl (omega arith) in
-    rw (le-ltb limit (length bytes) fits)
+read_again limit depth bytes fs r =
+    let whole = again depth (length bytes) true 0 bytes fs r.0 (record { outer = []; forms = [] }) [] refl (omega (arith, r.1)) in
+    rw (le-ltb limit (length bytes) r.2)
       (bytes_are depth (length bytes) 0 bytes (bytes ++ []) start (sym (append-nil bytes)) ∙ whole ∙ all_read depth (length bytes) (0 + length bytes) fs)
 
 -- no bytes have two readings
 pub one_reading_is : (bytes : List ℕ) (fs gs : List Form) → Reads true 0 bytes fs → Reads true 0 bytes gs → fs ≡ gs
 one_reading_is bytes fs gs r t =
-    let one = read_again (length bytes) (max (highest fs) (highest gs)) bytes fs r (omega arith) (omega arith) in
-    let two = read_again (length bytes) (max (highest fs) (highest gs)) bytes gs t (omega arith) (omega arith) in
+    let one = read_again (length bytes) (max (highest fs) (highest gs)) bytes fs (r, omega arith, omega arith) in
+    let two = read_again (length bytes) (max (highest fs) (highest gs)) bytes gs (t, omega arith, omega arith) in
     same (sym one ∙ two)
  where
   same : forms_read fs ≡ forms_read gs → fs ≡ gs

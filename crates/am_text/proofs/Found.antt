@@ -15,7 +15,7 @@ use Rattle.am_text.specs.Bytes.{is_blank, is_word_byte, is_text_byte, is_line_by
 use Rattle.am_text.specs.Atoms.{atom_of}
 use Rattle.am_text.specs.Answers.{◌>>=◌}
 use Rattle.am_text.specs.Scan.{Held, State, in_mode, with_form, between, closed, in_word, in_text, ended_word, ended_by, step, run, finished, ended, start, read}
-use Rattle.am_text.specs.Grammar.{Reads, End, Blank, Nest, Atom, Quoted, EndsWord, EndsLine, form, height, highest, greatest}
+use Rattle.am_text.specs.Grammar.{Reads, End, Blank, Nest, Atom, Quoted, EndsWord, EndsLine, ReadsWithin, form, height, highest, greatest}
 use Rattle.am_text.specs.Grammar.{Comment as Remark}
 use Rattle.am_text.proofs.Folds.{height-Text, height-List, height-form}
 use Rattle.am_text.proofs.AtomKinds.{atom_height}
@@ -225,14 +225,10 @@ module _ (depth last : ℕ) where
   claims_all [] = claims_none
   claims_all (b ∷ bs) = claims_more b bs (claims_all bs)
 
--- the three things that a reading says
-abbrev pub IsReading : ℕ → ℕ → List ℕ → List Form → Type 0
-IsReading limit depth bytes fs = Reads true 0 bytes fs × (highest fs ≤ depth) × (length bytes ≤ limit)
-
-pub read_found : (limit depth : ℕ) (bytes : List ℕ) (fs : List Form) → read limit depth bytes ≡ ok fs → IsReading limit depth bytes fs
+pub read_found : (limit depth : ℕ) (bytes : List ℕ) (fs : List Form) → read limit depth bytes ≡ ok fs → ReadsWithin limit depth bytes fs
 unfolding read
 read_found limit depth bytes fs e =
-    by_if (nat_lt limit (length bytes)) _ _ (λ (r : Result (List Form) TextFault). r) fs (IsReading limit depth bytes fs) e
+    by_if (nat_lt limit (length bytes)) _ _ (λ (r : Result (List Form) TextFault). r) fs (ReadsWithin limit depth bytes fs) e
       (λ _ k. absurd cc)
       (λ f k. let r = (claims_all depth (length bytes) bytes).plain 0 (record { outer = []; forms = [] }) fs (omega arith) k in
         (subst (Reads true 0 bytes) (sym r.2) r.1, subst (λ (gs : List Form). highest gs ≤ depth) (sym r.2) r.3, grind (arith, nat_tests)))

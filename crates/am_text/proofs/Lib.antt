@@ -6,3 +6,5 @@ pub mod AtomKinds
 pub mod Found
 pub mod Runs
 pub mod Converse
+pub mod Answering
+pub mod WriteSteps

@@ -57,3 +57,7 @@ node_height = fold-FormNode ℕ ℕ height_step form_height
 
 abbrev pub highest : List Form → ℕ
 highest fs = greatest (map height fs)
+
+-- the bytes are these forms, are no more than `limit`, and open no more than `depth` lists at once
+abbrev pub ReadsWithin : ℕ → ℕ → List ℕ → List Form → Type 0
+ReadsWithin limit depth bytes fs = Reads true 0 bytes fs × (highest fs ≤ depth) × (length bytes ≤ limit)

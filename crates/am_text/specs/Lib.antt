@@ -4,3 +4,4 @@ pub mod Answers
 pub mod Scan
 pub mod Grammar
 pub mod Spelling
+pub mod Laws

@@ -1,10 +1,19 @@
-ghost use Rattle.std.specs.Prelude.{◌≡◌, ◌≤◌, ℕ, List, Ok, true, length};
-ghost use Rattle.am_text.specs.declared.form.Form.{Form};
-ghost use Rattle.am_text.specs.Grammar.{Reads, highest};
-ghost use Rattle.am_text.specs.Scan.{read};
+ghost use Rattle.am_text.specs.Laws.{ReadIsInGrammar, GrammarIsRead, OneReading};
 
-/// What is read is in the grammar, no deeper than the limit, and no longer.
-pub fn what_is_read()
-    ensures { (limit depth : ℕ) (bytes : List ℕ) (forms : List Form) → read limit depth bytes ≡ Ok forms → Reads true 0 bytes forms × (highest forms ≤ depth) × (length bytes ≤ limit) }
+/// What is read is in the grammar, and keeps the limits.
+pub fn what_is_read_is_in_the_grammar()
+    ensures { ReadIsInGrammar }
+{
+}
+
+/// What is in the grammar and keeps the limits is read.
+pub fn what_is_in_the_grammar_is_read()
+    ensures { GrammarIsRead }
+{
+}
+
+/// No bytes have two readings.
+pub fn no_bytes_have_two_readings()
+    ensures { OneReading }
 {
 }

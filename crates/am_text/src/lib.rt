@@ -13,9 +13,11 @@ mod laws;
 mod limits;
 mod reading;
 mod scan;
+mod writing;
 
 pub use fault::{TextFault, TextKind};
 pub use form::{Form, FormNode};
-pub use laws::what_is_read;
+pub use laws::{no_bytes_have_two_readings, what_is_in_the_grammar_is_read, what_is_read_is_in_the_grammar};
 pub use limits::TextLimits;
 pub use reading::read_forms;
+pub use writing::write_form;

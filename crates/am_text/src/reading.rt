@@ -1,5 +1,7 @@
-ghost use Rattle.std.specs.Prelude.{◌≡◌, ◌<◌, ◌≤◌, ◌^◌, length};
+ghost use Rattle.std.specs.Prelude.{◌≡◌, ◌<◌, ◌^◌, List, Ok, IfOk, length};
 ghost use Rattle.am_text.specs.Answers.{Gives, IsAnswer};
+ghost use Rattle.am_text.specs.declared.form.Form.{Form};
+ghost use Rattle.am_text.specs.Grammar.{ReadsWithin};
 ghost use Rattle.am_text.specs.Scan.{held, state, closed, between, ended_word, in_word, in_text, step, run, finished, ended, start, read};
 
 use crate::atom::atom;
@@ -299,6 +301,10 @@ pub fn read_forms(
 ) -> Result<Items<Form>, TextFault>
     // The forms or the first fault, by the scan.
     ensures exact { IsAnswer result (read limits.bytes limits.depth bytes.now) }
+    // The bytes are these forms by the grammar, within the limits.
+    ensures found { IfOk result (ReadsWithin limits.bytes limits.depth bytes.now) }
+    // Whatever forms the bytes are by the grammar, within the limits, are the answer.
+    ensures only { (forms : List Form) → ReadsWithin limits.bytes limits.depth bytes.now forms → IsAnswer result (Ok forms) }
 {
     answer(alloc, bytes, limits)
 }
