@@ -56,16 +56,16 @@ front_rest depth C (o ∷ outer) before ms x p q bs fs low front has r =
         (subst (λ (y : List Form). Rest depth outer (o.before ++ form o.place (node.List y) ∷ []) (q + length r.0 + 1) r.1 fs) (append_assoc before ms r.2) r.5),
       low_append (length outer + 1) depth ms r.2 (omega arith) r.6)
 
-abbrev Always : Bool → List ℕ → Type 0
+abbrev pub Always : Bool → List ℕ → Type 0
 Always last bs = Unit {0}
 
 blank_front : (b p : ℕ) → is_blank b ≡ true → Front Always (b ∷ []) p (p + 1) []
 blank_front b p e = record { reads = λ l bs gs c r. Blank l p b bs gs e r; len = refl; keeps = λ a t c. tt }
 
-nest_front : (p : ℕ) (inner : List ℕ) (gs : List Form) → Reads false (p + 1) inner gs → Front Always (40 ∷ inner ++ 41 ∷ []) p (p + 1 + length inner + 1) (form p (node.List gs) ∷ [])
+pub nest_front : (p : ℕ) (inner : List ℕ) (gs : List Form) → Reads false (p + 1) inner gs → Front Always (40 ∷ inner ++ 41 ∷ []) p (p + 1 + length inner + 1) (form p (node.List gs) ∷ [])
 nest_front p inner gs r = record { reads = λ l bs hs c t. subst (λ (x : List ℕ). Reads l p (40 ∷ x) (form p (node.List gs) ∷ hs)) (sym (append_assoc inner (41 ∷ []) bs)) (Nest l p inner bs gs hs r t); len = omega (arith, length-append inner (41 ∷ [])); keeps = λ a t c. tt }
 
-text_front : (p : ℕ) (t : List ℕ) → list_all is_text_byte t ≡ true → length t ≤ 255 → Front Always (34 ∷ t ++ 34 ∷ []) p (p + 1 + length t + 1) (form p (node.Text t) ∷ [])
+pub text_front : (p : ℕ) (t : List ℕ) → list_all is_text_byte t ≡ true → length t ≤ 255 → Front Always (34 ∷ t ++ 34 ∷ []) p (p + 1 + length t + 1) (form p (node.Text t) ∷ [])
 text_front p t e le = record { reads = λ l bs hs c r. subst (λ (x : List ℕ). Reads l p (34 ∷ x) (form p (node.Text t) ∷ hs)) (sym (append_assoc t (34 ∷ []) bs)) (Quoted l p t bs hs e le r); len = omega (arith, length-append t (34 ∷ [])); keeps = λ a t c. tt }
 
 ends_word_keeps : (a t : List ℕ) → EndsWord (a ++ 41 ∷ t) → EndsWord a
@@ -76,7 +76,7 @@ ends_line_keeps : (a t : List ℕ) → EndsLine true (a ++ 41 ∷ t) → EndsLin
 ends_line_keeps [] t c = absurd (omega arith)
 ends_line_keeps (x ∷ a) t c = c
 
-atom_front : (p b : ℕ) (w : List ℕ) (n : FormNode) → is_word_byte b ≡ true → list_all is_word_byte w ≡ true → length w < 48 → atom_of (b ∷ w) ≡ Some n → Front (λ l. EndsWord) (b ∷ w) p (p + 1 + length w) (form p n ∷ [])
+pub atom_front : (p b : ℕ) (w : List ℕ) (n : FormNode) → is_word_byte b ≡ true → list_all is_word_byte w ≡ true → length w < 48 → atom_of (b ∷ w) ≡ Some n → Front (λ l. EndsWord) (b ∷ w) p (p + 1 + length w) (form p n ∷ [])
 atom_front p b w n e es le a = record { reads = λ l bs gs c r. Atom l p b w bs n gs e es le c a r; len = omega arith; keeps = ends_word_keeps }
 
 line_front : (p : ℕ) (cs : List ℕ) → list_all is_line_byte cs ≡ true → Front EndsLine (59 ∷ cs) p (p + 1 + length cs) []

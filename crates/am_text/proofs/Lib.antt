@@ -8,3 +8,6 @@ pub mod Runs
 pub mod Converse
 pub mod Answering
 pub mod WriteSteps
+pub mod Decimals
+pub mod Written
+pub mod Trip

@@ -14,7 +14,7 @@ use Rattle.am_text.specs.declared.form.FormNode.{FormNode}
 use Rattle.am_text.specs.declared.form.FormNode.TheVariants.{Word, Number}
 use Rattle.am_text.specs.Atoms.{has_digits, is_number, read_on, number_of, atom_of}
 
-own : IsNumeralModel (λ ds. list_all is_ascii_digit ds ≡ true) (read_on 0)
+pub own : IsNumeralModel (λ ds. list_all is_ascii_digit ds ≡ true) (read_on 0)
 own = numerals_by_fold _ (search rules) read_on (search rules)
 
 abbrev pub Parsed : {E : Type 0} → Result ℤ E → Option FormNode → Type 0

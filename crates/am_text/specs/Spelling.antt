@@ -1,5 +1,5 @@
 -- How a form is written, which forms can be written, and when two forms differ in their places alone.
-use Rattle.std.specs.Prelude.{◌≡◌, ℕ, ℤ, pos, negsuc, List, [], ◌∷◌, ◌++◌, ◌&&◌, not, Bool, true, length, map, nat_lt, nat_le, ◌^◌}
+use Rattle.std.specs.Prelude.{◌≡◌, ℕ, ℤ, pos, negsuc, List, [], ◌∷◌, ◌++◌, ◌&&◌, not, Bool, length, map, Result, Ok, nat_lt, nat_le, ◌^◌}
 use Rattle.std.specs.List.{list_all, join_with_byte}
 use Rattle.std.specs.Fmt.{signed_decimal}
 use Rattle.am_text.specs.declared.form.Form.{Form}
@@ -9,6 +9,7 @@ use Rattle.am_text.specs.declared.form.FormNode.TheFolds.{fold-Form, fold-FormNo
 use Rattle.am_text.specs.declared.form.FormNode.TheOpen.{FormNode-F, Form-F}
 use Rattle.am_text.specs.Bytes.{is_word_byte, is_text_byte}
 use Rattle.am_text.specs.Atoms.{is_number}
+use Rattle.am_text.specs.Scan.{read}
 
 -- ---- the spelling: a word as it is, a number in decimal, a text between quotation marks, a list's members between
 -- parentheses with one blank between each two
@@ -73,3 +74,7 @@ bare = fold-Form FormNode Form bare_step form_bare
 
 unfoldable pub node_bare : FormNode → FormNode
 node_bare = fold-FormNode FormNode Form bare_step form_bare
+
+-- the bytes are read, within these limits, as these forms, places aside
+abbrev pub ReadsAs : ℕ → ℕ → List ℕ → List Form → Type 0
+ReadsAs limit depth bytes forms = (others : List Form) × (read limit depth bytes ≡ Ok others) × (map bare others ≡ map bare forms)
