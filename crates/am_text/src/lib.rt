@@ -21,3 +21,6 @@ pub use laws::{lines_are_read, no_bytes_have_two_readings, round_trip, what_is_i
 pub use limits::TextLimits;
 pub use reading::read_forms;
 pub use writing::write_form;
+
+#[cfg(test)]
+mod tests;
