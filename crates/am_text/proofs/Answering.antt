@@ -1,5 +1,5 @@
 -- What an answer of the scan says of the grammar.
-use Rattle.std.proofs.Common.{◌≡◌, ℕ, List, Result, Ok, Err, IfOk, sym, ◌∙◌, inl, inr}
+use Rattle.std.proofs.Common.{ℕ, List, Result, Ok, Err, IfOk, sym, ◌∙◌, inl, inr}
 use Rattle.am_text.specs.declared.fault.TextFault.{TextFault}
 use Rattle.am_text.specs.declared.form.Form.{Form}
 use Rattle.am_text.specs.Answers.{IsAnswer}

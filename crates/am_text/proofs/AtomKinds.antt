@@ -1,8 +1,8 @@
 -- What an atom is: no list, and a form that can be written.
-use Rattle.std.proofs.Common.{◌≡◌, ℕ, zero, suc, ◌+◌, ◌<◌, ◌≤◌, ◌^◌, Bool, true, false, cond, List, [], ◌∷◌, length, Option, Some, None, refl, sym, ap, subst, ◌∙◌, arith, rules}
-use Rattle.std.specs.Prelude.{ℤ, pos, neg_ℤ, nat_lt, nat_le, ◌==◌, ◌&&◌, not}
+use Rattle.std.proofs.Common.{◌≡◌, ℕ, zero, suc, ◌<◌, ◌≤◌, ◌^◌, Bool, true, false, cond, List, [], ◌∷◌, length, Option, Some, refl, subst, ◌∙◌, arith}
+use Rattle.std.specs.Prelude.{ℤ, pos, neg_ℤ, nat_lt, nat_le, ◌==◌}
 use Rattle.std.specs.List.{list_all}
-use Rattle.std.proofs.lemmas.Bool.{le-ltb, lt-ltb}
+use Rattle.std.proofs.lemmas.Bool.{lt-ltb}
 use Rattle.std.proofs.lemmas.Bool.Decides.{nat_tests}
 use Rattle.am_text.specs.declared.form.FormNode.{FormNode}
 use Rattle.am_text.specs.declared.form.FormNode.TheVariants.{Word, Number}
@@ -32,8 +32,8 @@ numeral_height : (w : List ℕ) (n : FormNode) → number_of w ≡ some n → no
 numeral_height [] n e = absurd cc
 numeral_height (b ∷ bs) n e =
     some_if (b == 45) _ _ n (node_height n ≡ 0) e
-      (λ _ k. some_if (nat_lt (2 ^ 63) (read_on 0 bs)) _ _ n (node_height n ≡ 0) k (λ _ j. absurd cc) (λ _ j. number_height (neg_ℤ (pos (read_on 0 bs))) n j))
-      (λ _ k. some_if (nat_lt (read_on 0 (b ∷ bs)) (2 ^ 63)) _ _ n (node_height n ≡ 0) k (λ _ j. number_height (pos (read_on 0 (b ∷ bs))) n j) (λ _ j. absurd cc))
+    (λ _ k. some_if (nat_lt (2 ^ 63) (read_on 0 bs)) _ _ n (node_height n ≡ 0) k (λ _ j. absurd cc) (λ _ j. number_height (neg_ℤ (pos (read_on 0 bs))) n j))
+    (λ _ k. some_if (nat_lt (read_on 0 (b ∷ bs)) (2 ^ 63)) _ _ n (node_height n ≡ 0) k (λ _ j. number_height (pos (read_on 0 (b ∷ bs))) n j) (λ _ j. absurd cc))
 
 pub atom_height : (w : List ℕ) (n : FormNode) → atom_of w ≡ some n → node_height n ≡ 0
 unfolding atom_of
@@ -51,18 +51,20 @@ numeral_sound : (w : List ℕ) (n : FormNode) → number_of w ≡ some n → nod
 numeral_sound [] n e = absurd cc
 numeral_sound (b ∷ bs) n e =
     some_if (b == 45) _ _ n (node_sound n ≡ true) e
-      (λ _ k. some_if (nat_lt (2 ^ 63) (read_on 0 bs)) _ _ n (node_sound n ≡ true) k (λ _ j. absurd cc) (λ f j. number_sound (neg_ℤ (pos (read_on 0 bs))) n (minus_fits (read_on 0 bs) f) j))
-      (λ _ k. some_if (nat_lt (read_on 0 (b ∷ bs)) (2 ^ 63)) _ _ n (node_sound n ≡ true) k (λ t j. number_sound (pos (read_on 0 (b ∷ bs))) n t j) (λ _ j. absurd cc))
+    (λ _ k. some_if (nat_lt (2 ^ 63) (read_on 0 bs)) _ _ n (node_sound n ≡ true) k (λ _ j. absurd cc) (λ f j. number_sound (neg_ℤ (pos (read_on 0 bs))) n (minus_fits (read_on 0 bs) f) j))
+    (λ _ k. some_if (nat_lt (read_on 0 (b ∷ bs)) (2 ^ 63)) _ _ n (node_sound n ≡ true) k (λ t j. number_sound (pos (read_on 0 (b ∷ bs))) n t j) (λ _ j. absurd cc))
 
 word_sound : (b : ℕ) (w : List ℕ) (n : FormNode) → is_word_byte b ≡ true → list_all is_word_byte w ≡ true → length w < 48 → is_number (b ∷ w) ≡ false → some (Word (b ∷ w)) ≡ some n → node_sound n ≡ true
 word_sound b w n e es lt f k = subst (λ (m : FormNode). node_sound m ≡ true) (same (Word (b ∷ w)) n k) (sound-Word (b ∷ w) ∙ is)
- where
-  short : nat_le (length (b ∷ w)) 48 ≡ true
-  short = grind (arith, nat_tests)
-  some_byte : nat_lt 0 (length (b ∷ w)) ≡ true
-  some_byte = grind (arith, nat_tests)
-  is : is_word (b ∷ w) ≡ true
-  is = rw (some_byte, short, e, es, f) refl
+  where
+    short : nat_le (length (b ∷ w)) 48 ≡ true
+    short = grind (arith, nat_tests)
+
+    some_byte : nat_lt 0 (length (b ∷ w)) ≡ true
+    some_byte = grind (arith, nat_tests)
+
+    is : is_word (b ∷ w) ≡ true
+    is = rw (some_byte, short, e, es, f) refl
 
 pub atom_sound : (b : ℕ) (w : List ℕ) (n : FormNode) → is_word_byte b ≡ true → list_all is_word_byte w ≡ true → length w < 48 → atom_of (b ∷ w) ≡ some n → node_sound n ≡ true
 unfolding atom_of

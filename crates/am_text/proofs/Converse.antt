@@ -1,7 +1,5 @@
 -- What is in the grammar, no deeper than the limit and no longer, is read.
-use Rattle.std.proofs.Common.{◌≡◌, ℕ, ◌+◌, ◌<◌, ◌≤◌, Bool, true, false, max, List, [], ◌∷◌, ◌++◌, length, map, Result, Ok, Err, Option, Some, None, refl, sym, ap, subst, ◌∙◌, arith, append_assoc}
-use Rattle.std.specs.Prelude.{nat_lt, ◌==◌}
-use Rattle.std.specs.List.{list_all}
+use Rattle.std.proofs.Common.{◌≡◌, ℕ, ◌+◌, ◌≤◌, Bool, true, false, max, List, [], ◌∷◌, ◌++◌, length, Result, Ok, Some, refl, sym, ap, subst, ◌∙◌, arith, append_assoc}
 use Rattle.std.proofs.lemmas.Bool.{le-ltb}
 use Rattle.std.proofs.lemmas.List.{append-nil, length-append}
 use Rattle.am_text.specs.declared.fault.TextFault.{TextFault}
@@ -9,10 +7,9 @@ use Rattle.am_text.specs.declared.form.Form.{Form}
 use Rattle.am_text.specs.declared.form.FormNode.{FormNode}
 use Rattle.am_text.specs.declared.form.FormNode.TheVariants as node
 use Rattle.am_text.specs.declared.scan.Mode.TheVariants.{Between, Word, Text, Comment}
-use Rattle.am_text.specs.Bytes.{is_blank, is_word_byte, is_text_byte, is_line_byte}
 use Rattle.am_text.specs.Atoms.{atom_of}
 use Rattle.am_text.specs.Answers.{◌>>=◌}
-use Rattle.am_text.specs.Scan.{Held, State, in_mode, with_form, ended_word, step, run, finished, ended, start, read}
+use Rattle.am_text.specs.Scan.{Held, State, in_mode, with_form, ended_word, step, run, finished, start, read}
 use Rattle.am_text.specs.Grammar.{Reads, End, Blank, Nest, Atom, Quoted, EndsWord, EndsLine, ReadsWithin, form, height, highest}
 use Rattle.am_text.specs.Grammar.{Comment as Remark}
 use Rattle.am_text.proofs.Folds.{height-List, height-form}
@@ -122,7 +119,7 @@ unfolding read
 read_again limit depth bytes fs r =
     let whole = again depth (length bytes) true 0 bytes fs r.0 (record { outer = []; forms = [] }) [] refl (omega (arith, r.1)) in
     rw (le-ltb limit (length bytes) r.2)
-      (bytes_are depth (length bytes) 0 bytes (bytes ++ []) start (sym (append-nil bytes)) ∙ whole ∙ all_read depth (length bytes) (0 + length bytes) fs)
+    (bytes_are depth (length bytes) 0 bytes (bytes ++ []) start (sym (append-nil bytes)) ∙ whole ∙ all_read depth (length bytes) (0 + length bytes) fs)
 
 -- no bytes have two readings
 pub one_reading_is : (bytes : List ℕ) (fs gs : List Form) → Reads true 0 bytes fs → Reads true 0 bytes gs → fs ≡ gs
@@ -130,6 +127,6 @@ one_reading_is bytes fs gs r t =
     let one = read_again (length bytes) (max (highest fs) (highest gs)) bytes fs (r, omega arith, omega arith) in
     let two = read_again (length bytes) (max (highest fs) (highest gs)) bytes gs (t, omega arith, omega arith) in
     same (sym one ∙ two)
- where
-  same : forms_read fs ≡ forms_read gs → fs ≡ gs
-  same e = cc
+  where
+    same : forms_read fs ≡ forms_read gs → fs ≡ gs
+    same e = cc

@@ -1,6 +1,6 @@
 -- A number's decimal is a word that is read as the number.
-use Rattle.std.proofs.Common.{◌≡◌, ℕ, zero, suc, ◌+◌, ◌<◌, ◌≤◌, ◌^◌, Bool, true, false, List, [], ◌∷◌, length, Option, Some, None, refl, sym, ap, subst, ◌∙◌, arith}
-use Rattle.std.specs.Prelude.{ℤ, pos, negsuc, neg_ℤ, nat_lt, ◌==◌, ◌||◌}
+use Rattle.std.proofs.Common.{◌≡◌, ℕ, suc, ◌<◌, ◌≤◌, ◌^◌, true, false, List, [], ◌∷◌, length, Option, Some, refl, arith}
+use Rattle.std.specs.Prelude.{ℤ, pos, negsuc, ◌==◌}
 use Rattle.std.specs.List.{list_all}
 use Rattle.std.specs.Char.{is_ascii_digit}
 use Rattle.std.specs.Fmt.{decimal, signed_decimal}
@@ -10,7 +10,7 @@ use Rattle.std.proofs.lemmas.Bool.Decides.{nat_tests}
 use Rattle.am_text.specs.declared.form.FormNode.{FormNode}
 use Rattle.am_text.specs.declared.form.FormNode.TheVariants.{Number}
 use Rattle.am_text.specs.Bytes.{is_word_byte}
-use Rattle.am_text.specs.Atoms.{has_digits, is_number, read_on, number_of, atom_of}
+use Rattle.am_text.specs.Atoms.{read_on, atom_of}
 use Rattle.am_text.specs.Spelling.{fits}
 use Rattle.am_text.proofs.Numbers.{own}
 use Rattle.am_text.proofs.Runs.{both}
@@ -55,7 +55,8 @@ decimal_spells (pos k) f =
       some_byte = decimal_nonempty k (omega arith);
       short = omega (arith, length-decimal-le 20 k (omega arith) (omega arith) (omega arith));
       bytes = word_bytes (decimal k) ds;
-      atom = plain_atom (decimal k) k (decimal_nonempty k (omega arith)) ds (digits_value-decimal own k (omega arith)) lt }
+      atom = plain_atom (decimal k) k (decimal_nonempty k (omega arith)) ds (digits_value-decimal own k (omega arith)) lt;
+    }
 decimal_spells (negsuc k) f =
     let lt : k < 2 ^ 63 = grind (arith, nat_tests) in
     let ds = digits_decimal own (suc k) (omega arith) in
@@ -63,4 +64,5 @@ decimal_spells (negsuc k) f =
       some_byte = omega arith;
       short = omega (arith, length-decimal-le 20 (suc k) (omega arith) (omega arith) (omega arith));
       bytes = rw (word_bytes (decimal (suc k)) ds) refl;
-      atom = minus_atom (decimal (suc k)) k (decimal_nonempty (suc k) (omega arith)) ds (digits_value-decimal own (suc k) (omega arith)) lt }
+      atom = minus_atom (decimal (suc k)) k (decimal_nonempty (suc k) (omega arith)) ds (digits_value-decimal own (suc k) (omega arith)) lt;
+    }

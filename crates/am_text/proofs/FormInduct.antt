@@ -1,4 +1,4 @@
-use Rattle.std.proofs.Common.{◌≡◌, ℕ, List, [], ◌∷◌, map, refl, sym, ap, subst, ◌∙◌}
+use Rattle.std.proofs.Common.{◌≡◌, ℕ, List, [], ◌∷◌, map, sym, subst}
 use Rattle.std.specs.Prelude.{ℤ}
 use denote.Hole.Holds.{Such}
 use Rattle.am_text.specs.declared.form.Form.{Form}
@@ -15,6 +15,7 @@ module _ (P : FormNode → Type 0) (P' : Form → Type 0) (Q : List Form → Typ
     (none : Q []) (more : (f : Form) (fs : List Form) → P' f → Q fs → Q (f ∷ fs)) where
   abbrev N : Type 0
   N = Such the_family (claims P P') member-FormNode
+
   abbrev F : Type 0
   F = Such the_family (claims P P') member-Form
 

@@ -1,11 +1,10 @@
-use Rattle.std.proofs.Common.{◌≡◌, ◌≢◌, ℕ, ◌+◌, ◌<◌, ◌≤◌, ◌^◌, Bool, true, false, List, [], ◌∷◌, length, Result, Ok, Err, Option, Some, None, refl, sym, ap, subst, ◌∙◌, arith, rules}
-use Rattle.std.specs.Prelude.{ℤ, pos, neg_ℤ, nat_lt, ◌==◌, if◌then◌else◌}
+use Rattle.std.proofs.Common.{◌≡◌, ℕ, ◌<◌, ◌^◌, Bool, true, false, List, [], ◌∷◌, length, Result, Ok, Err, Option, Some, None, refl, sym, subst, arith, rules}
+use Rattle.std.specs.Prelude.{ℤ, ◌==◌, if◌then◌else◌}
 use Rattle.std.specs.Int.{w64}
 use Rattle.std.specs.List.{list_all}
 use Rattle.std.specs.Char.{is_ascii_digit}
 use Rattle.std.specs.Str.Parse.{ParsesSigned}
 use Rattle.std.proofs.lemmas.Str.Parse.{IsNumeralModel, numerals_by_fold, parse_signed_minus, parse_signed_digits}
-use Rattle.std.proofs.lemmas.Bool.Decides.{nat_tests}
 use Rattle.std.proofs.lemmas.Bool.{cases_lt, le-ltb, lt-ltb, eqb-true}
 use Rattle.std.proofs.lemmas.Grind.{common_steps}
 use Rattle.std.proofs.lemmas.List.Folds.{list_all_more, list_all_at}
@@ -40,14 +39,14 @@ with_minus E b bs (Ok n) p e h = let k = parse_signed_minus own {E = E} w64 (b �
 with_minus E b bs (Err x) p e h = let k = parse_signed_minus own {E = E} w64 (b ∷ bs) (Err x) p e in let d = digits_are bs h in elim (cases_lt (2 ^ 63) (read_on 0 bs)) [
   | inl lt ↦ rw (e, lt-ltb (2 ^ 63) (read_on 0 bs) lt) refl
   | inr le ↦ absurd (k (d.0, d.1, le))
-  ]
+]
 
 plain : (E : Type 0) (b : ℕ) (bs : List ℕ) (r : Result ℤ E) → ParsesSigned w64 10 (b ∷ bs) r → (b == 45) ≡ false → has_digits (b ∷ bs) ≡ true → Parsed r (number_of (b ∷ bs))
 plain E b bs (Ok n) p e h = let k = parse_signed_digits own {E = E} w64 (b ∷ bs) (Ok n) p h in rw (e, lt-ltb (read_on 0 (b ∷ bs)) (2 ^ 63) k.0.1, k.1) refl
 plain E b bs (Err x) p e h = let k = parse_signed_digits own {E = E} w64 (b ∷ bs) (Err x) p h in elim (cases_lt (read_on 0 (b ∷ bs)) (2 ^ 63)) [
   | inl lt ↦ absurd (k ((digits_are (b ∷ bs) h).1, lt))
   | inr le ↦ rw (e, le-ltb (read_on 0 (b ∷ bs)) (2 ^ 63) le) refl
-  ]
+]
 
 by_sign : (E : Type 0) (b : ℕ) (bs : List ℕ) (r : Result ℤ E) (t : Bool) → (b == 45) ≡ t → ParsesSigned w64 10 (b ∷ bs) r → (if t then has_digits bs else has_digits (b ∷ bs)) ≡ true → Parsed r (number_of (b ∷ bs))
 by_sign E b bs r true e p h = with_minus E b bs r p (eqb-true b 45 e) h
@@ -64,6 +63,7 @@ none_of = None
 pub word_is : (word : List ℕ) → is_number word ≡ false → atom_of word ≡ Some (Word word)
 unfolding atom_of
 word_is word h = rw h refl
+
 pub ruleset atom_laws = (common_steps, word_is)
 
 pub number_ok : (E : Type 0) (word : List ℕ) (n : ℤ) (r : Result ℤ E) → r ≡ Ok n → ParsesSigned w64 10 word r → is_number word ≡ true → Some (Number n) ≡ atom_of word

@@ -1,8 +1,8 @@
 -- Runs of the scan over a blank, a word, a text, a comment, the ends of a list.
-use Rattle.std.proofs.Common.{◌≡◌, ℕ, ◌+◌, ◌<◌, ◌≤◌, Bool, true, false, List, [], ◌∷◌, ◌++◌, length, Result, Ok, Err, Option, Some, None, refl, sym, ap, ◌∙◌, arith, append_assoc}
-use Rattle.std.specs.Prelude.{◌&&◌, not, nat_lt, ◌==◌}
+use Rattle.std.proofs.Common.{◌≡◌, ℕ, ◌+◌, ◌<◌, ◌≤◌, Bool, true, false, List, [], ◌∷◌, ◌++◌, length, Ok, Some, refl, ap, ◌∙◌, arith, append_assoc}
+use Rattle.std.specs.Prelude.{◌&&◌, not, ◌==◌}
 use Rattle.std.specs.List.{list_all}
-use Rattle.std.proofs.lemmas.Bool.{lt-ltb, eqb-true}
+use Rattle.std.proofs.lemmas.Bool.{lt-ltb}
 use Rattle.std.proofs.lemmas.Bool.Decides.{nat_tests}
 use Rattle.std.proofs.lemmas.List.{append-nil, length-append}
 use Rattle.am_text.specs.declared.form.Form.{Form}
@@ -11,8 +11,7 @@ use Rattle.am_text.specs.declared.form.FormNode.TheVariants as node
 use Rattle.am_text.specs.declared.scan.Mode.TheVariants.{Between, Word, Text, Comment}
 use Rattle.am_text.specs.Bytes.{is_blank, is_word_byte, is_text_byte, is_line_byte}
 use Rattle.am_text.specs.Atoms.{atom_of}
-use Rattle.am_text.specs.Answers.{◌>>=◌}
-use Rattle.am_text.specs.Scan.{Held, State, in_mode, with_form, between, closed, in_word, in_text, ended_word, step, run}
+use Rattle.am_text.specs.Scan.{Held, State, in_mode, with_form, between, opened, closed, in_word, in_text, ended_word, step, run}
 
 -- ---- one step
 pub step_on : (depth p b : ℕ) (bs : List ℕ) (s t : State) → step depth p b s ≡ Ok t → run depth p (b ∷ bs) s ≡ run depth (p + 1) bs t
@@ -78,10 +77,10 @@ comment_begins depth p h = refl
 
 no_line_feed : (b : ℕ) → is_line_byte b ≡ true → (b == 10) ≡ false
 no_line_feed b e = flip (b == 10) e
- where
-  flip : (t : Bool) → not t ≡ true → t ≡ false
-  flip true e = absurd cc
-  flip false e = refl
+  where
+    flip : (t : Bool) → not t ≡ true → t ≡ false
+    flip true e = absurd cc
+    flip false e = refl
 
 comment_step : (depth q b : ℕ) (h : Held) → is_line_byte b ≡ true → step depth q b (in_mode Comment h) ≡ Ok (in_mode Comment h)
 unfolding step
@@ -92,8 +91,8 @@ comment_on depth p [] rest h e = ap (λ (k : ℕ). run depth k rest (in_mode Com
 comment_on depth p (b ∷ bs) rest h e =
     let g = both (is_line_byte b) (list_all is_line_byte bs) e in
     step_on depth p b (bs ++ rest) (in_mode Comment h) (in_mode Comment h) (comment_step depth p b h g.0)
-      ∙ comment_on depth (p + 1) bs rest h g.1
-      ∙ ap (λ (k : ℕ). run depth k rest (in_mode Comment h)) (omega arith)
+    ∙ comment_on depth (p + 1) bs rest h g.1
+    ∙ ap (λ (k : ℕ). run depth k rest (in_mode Comment h)) (omega arith)
 
 pub comment_ends : (depth p b : ℕ) (rest : List ℕ) (h : Held) → b ≡ 10 → run depth p (b ∷ rest) (in_mode Comment h) ≡ run depth p (b ∷ rest) (in_mode Between h)
 unfolding run step between
@@ -108,7 +107,7 @@ abbrev pub after : Held → List Form → Held
 after h fs = record { outer = h.outer; forms = h.forms ++ fs }
 
 pub opens : (depth p : ℕ) (h : Held) → length h.outer < depth → step depth p 40 (in_mode Between h) ≡ Ok (in_mode Between (inner p h))
-unfolding step between
+unfolding step between opened
 opens depth p h lt = rw (lt-ltb (length h.outer) depth lt) refl
 
 pub closes : (depth p q : ℕ) (h : Held) (fs : List Form) → step depth q 41 (in_mode Between (after (inner p h) fs)) ≡ Ok (in_mode Between (with_form p (node.List fs) h))

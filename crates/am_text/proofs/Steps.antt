@@ -1,4 +1,4 @@
-use Rattle.std.proofs.Common.{◌≡◌, ℕ, zero, suc, ◌+◌, ◌<◌, List, [], ◌∷◌, length, get_or, drop, add-one, drop-cons, Result, Ok, Err, refl, ap, ◌∙◌, arith}
+use Rattle.std.proofs.Common.{◌≡◌, ℕ, ◌+◌, ◌<◌, List, length, get_or, drop, add-one, drop-cons, Ok, refl, ◌∙◌, arith}
 use Rattle.std.proofs.lemmas.List.{drop_all}
 use Rattle.std.proofs.lemmas.Grind.{common_steps}
 use Rattle.am_text.specs.Answers.{◌>>=◌, Fails}
@@ -22,4 +22,5 @@ unfolding run
 run_ends depth i bytes s e = rw (drop_all i bytes (omega arith)) refl
 
 pub ruleset scan_laws = (common_steps)
+
 pub ruleset run_laws = (common_steps, run_goes_on, run_ends)

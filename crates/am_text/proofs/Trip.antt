@@ -1,17 +1,16 @@
 -- What was read and is written is read again.
-use Rattle.std.proofs.Common.{◌≡◌, ℕ, zero, suc, ◌+◌, ◌<◌, ◌≤◌, Bool, true, false, max, List, [], ◌∷◌, ◌++◌, length, map, get_or, Result, Ok, Err, Option, Some, refl, sym, ap, subst, ◌∙◌, arith}
-use Rattle.std.specs.Prelude.{nat_le, ◌&&◌, slice_index_or}
+use Rattle.std.proofs.Common.{◌≡◌, ℕ, zero, suc, ◌+◌, ◌<◌, ◌≤◌, Bool, true, false, List, [], ◌∷◌, length, map, get_or, Ok, refl, ap, subst, ◌∙◌, arith}
+use Rattle.std.specs.Prelude.{nat_le}
 use Rattle.std.specs.List.{list_all, All}
 use Rattle.std.proofs.lemmas.List.{append-nil}
 use Rattle.std.proofs.lemmas.Bool.Decides.{nat_tests}
 use Rattle.am_text.specs.declared.form.Form.{Form}
-use Rattle.am_text.specs.declared.form.FormNode.{FormNode}
 use Rattle.am_text.specs.declared.form.FormNode.TheVariants as node
 use Rattle.am_text.specs.Bytes.{is_text_byte}
-use Rattle.am_text.specs.Grammar.{Reads, End, Blank, Nest, Atom, Quoted, ReadsWithin, form, height, highest}
+use Rattle.am_text.specs.Grammar.{Reads, End, Blank, Nest, Atom, Quoted, form, height, highest}
 use Rattle.am_text.specs.Grammar.{Comment as Remark}
 use Rattle.am_text.specs.Scan.{read}
-use Rattle.am_text.specs.Spelling.{written, is_text, is_sound, node_sound, bare, lines, ReadsAs}
+use Rattle.am_text.specs.Spelling.{written, is_sound, lines, ReadsAs}
 use Rattle.am_text.proofs.Folds.{sound-Text, sound-List, sound-form}
 use Rattle.am_text.proofs.AtomKinds.{atom_sound}
 use Rattle.am_text.proofs.Found.{read_found}

@@ -1,21 +1,21 @@
 -- What is written is in the grammar.
-use Rattle.std.proofs.Common.{◌≡◌, ℕ, ◌+◌, ◌<◌, ◌≤◌, Bool, true, false, max, List, [], ◌∷◌, ◌++◌, length, map, Option, Some, None, refl, sym, ap, subst, ◌∙◌, arith, append_assoc}
+use Rattle.std.proofs.Common.{◌≡◌, ℕ, ◌+◌, ◌<◌, ◌≤◌, Bool, true, false, max, List, [], ◌∷◌, ◌++◌, length, map, Some, refl, sym, ap, subst, ◌∙◌, arith}
 use Rattle.std.specs.Prelude.{ℤ, nat_lt, nat_le, not, ◌&&◌}
 use Rattle.std.specs.List.{list_all, join_with_byte}
-use Rattle.std.proofs.lemmas.List.{append-nil, length-append}
+use Rattle.std.proofs.lemmas.List.{append-nil}
 use Rattle.std.proofs.lemmas.Bool.Decides.{nat_tests}
 use Rattle.am_text.specs.declared.form.Form.{Form}
 use Rattle.am_text.specs.declared.form.FormNode.{FormNode}
 use Rattle.am_text.specs.declared.form.FormNode.TheVariants as node
 use Rattle.am_text.specs.Bytes.{is_word_byte, is_text_byte}
 use Rattle.am_text.specs.Atoms.{is_number, atom_of}
-use Rattle.am_text.specs.Grammar.{Reads, End, Blank, EndsWord, EndsLine, form, height, node_height, highest, greatest}
-use Rattle.am_text.specs.Spelling.{written, node_written, is_word, is_text, fits, is_sound, node_sound, bare, node_bare, lines}
+use Rattle.am_text.specs.Grammar.{Reads, End, Blank, EndsWord, form, height, node_height, highest}
+use Rattle.am_text.specs.Spelling.{written, node_written, is_word, is_text, is_sound, node_sound, bare, node_bare, lines}
 use Rattle.am_text.proofs.FormInduct.{form_induct}
-use Rattle.am_text.proofs.Folds.{height-Word, height-Number, height-Text, height-List, height-form, written-Word, written-Number, written-Text, written-List, written-form, sound-Word, sound-Number, sound-Text, sound-List, sound-form, bare-Word, bare-Number, bare-Text, bare-List, bare-form}
+use Rattle.am_text.proofs.Folds.{height-List, height-form, written-Word, written-Number, written-Text, written-List, written-form, sound-Word, sound-Number, sound-Text, sound-List, sound-form, bare-List, bare-form}
 use Rattle.am_text.proofs.Found.{Front, Always, nest_front, text_front, atom_front}
 use Rattle.am_text.proofs.Numbers.{word_is}
-use Rattle.am_text.proofs.Decimals.{Spells, decimal_spells}
+use Rattle.am_text.proofs.Decimals.{decimal_spells}
 use Rattle.am_text.proofs.Runs.{both}
 
 -- the text at p is the form g, before whatever may stand behind a word
@@ -51,10 +51,10 @@ word_law w ok p =
     let some_byte : 0 < length w = grind (arith, nat_tests) in
     let short : length w ≤ 48 = grind (arith, nat_tests) in
     (node.Word w, refl, refl, subst (λ (x : List ℕ). Before p x (form p (node.Word w))) (sym (written-Word w)) (atom_before p w (node.Word w) some_byte short g3.0 (word_is w (not_true (is_number w) g3.1))))
- where
-  not_true : (x : Bool) → not x ≡ true → x ≡ false
-  not_true true e = absurd cc
-  not_true false e = refl
+  where
+    not_true : (x : Bool) → not x ≡ true → x ≡ false
+    not_true true e = absurd cc
+    not_true false e = refl
 
 number_law : (n : ℤ) → NodeLaw (node.Number n)
 number_law n ok p =
@@ -65,22 +65,32 @@ text_law : (t : List ℕ) → NodeLaw (node.Text t)
 text_law t ok p =
     let s : is_text t ≡ true = sym (sound-Text t) ∙ ok in
     let g = both (nat_le (length t) 255) (list_all is_text_byte t) s in
-    let short : length t ≤ 255 = grind (arith, nat_tests) in
-    (node.Text t, refl, refl, subst (λ (x : List ℕ). Before p x (form p (node.Text t))) (sym (written-Text t))
-      (front_before Always (34 ∷ t ++ 34 ∷ []) p (p + 1 + length t + 1) (form p (node.Text t)) (text_front p t g.1 short) (λ last rest ends. tt)))
+    let short : length t ≤ 255 = grind (arith, nat_tests) in (
+      node.Text t,
+      refl,
+      refl,
+      subst (λ (x : List ℕ). Before p x (form p (node.Text t))) (sym (written-Text t))
+          (front_before Always (34 ∷ t ++ 34 ∷ []) p (p + 1 + length t + 1) (form p (node.Text t)) (text_front p t g.1 short) (λ last rest ends. tt)),
+    )
 
 list_law : (fs : List Form) → ListLaw fs → NodeLaw (node.List fs)
 list_law fs law ok p =
-    let r = law (sym (sound-List fs) ∙ ok) (p + 1) in
-    (node.List r.0, bare-List r.0 ∙ ap (λ (x : List Form). node.List x) r.1 ∙ sym (bare-List fs), height-List r.0 ∙ ap (λ (k : ℕ). 1 + k) r.2 ∙ sym (height-List fs),
+    let r = law (sym (sound-List fs) ∙ ok) (p + 1) in (
+      node.List r.0,
+      bare-List r.0 ∙ ap (λ (x : List Form). node.List x) r.1 ∙ sym (bare-List fs),
+      height-List r.0 ∙ ap (λ (k : ℕ). 1 + k) r.2 ∙ sym (height-List fs),
       subst (λ (x : List ℕ). Before p x (form p (node.List r.0))) (sym (written-List fs))
-        (front_before Always (40 ∷ join_with_byte 32 (map written fs) ++ 41 ∷ []) p (p + 1 + length (join_with_byte 32 (map written fs)) + 1) (form p (node.List r.0)) (nest_front p (join_with_byte 32 (map written fs)) r.0 r.3) (λ last rest ends. tt)))
+          (front_before Always (40 ∷ join_with_byte 32 (map written fs) ++ 41 ∷ []) p (p + 1 + length (join_with_byte 32 (map written fs)) + 1) (form p (node.List r.0)) (nest_front p (join_with_byte 32 (map written fs)) r.0 r.3) (λ last rest ends. tt)),
+    )
 
 placed_law : (q : ℕ) (n : FormNode) → NodeLaw n → FormLaw (record { place = q; node = n })
 placed_law q n law ok p =
-    let r = law (sym (sound-form q n) ∙ ok) p in
-    (form p r.0, bare-form p r.0 ∙ ap (λ (m : FormNode). form 0 m) r.1 ∙ sym (bare-form q n), height-form p r.0 ∙ r.2 ∙ sym (height-form q n),
-      subst (λ (x : List ℕ). Before p x (form p r.0)) (sym (written-form q n)) r.3)
+    let r = law (sym (sound-form q n) ∙ ok) p in (
+      form p r.0,
+      bare-form p r.0 ∙ ap (λ (m : FormNode). form 0 m) r.1 ∙ sym (bare-form q n),
+      height-form p r.0 ∙ r.2 ∙ sym (height-form q n),
+      subst (λ (x : List ℕ). Before p x (form p r.0)) (sym (written-form q n)) r.3,
+    )
 
 none_law : ListLaw []
 none_law ok p = ([], refl, refl, End false p)

@@ -1,5 +1,5 @@
 -- Words and numbers.
-use Rattle.std.specs.Prelude.{ℕ, ℤ, pos, neg_ℤ, List, [], ◌∷◌, Bool, true, false, Option, Some, None, nat_lt, ◌==◌, ◌^◌, if◌then◌else◌, ◌+◌, ◌*◌, ◌-◌}
+use Rattle.std.specs.Prelude.{ℕ, pos, neg_ℤ, List, [], ◌∷◌, Bool, false, Option, Some, None, nat_lt, ◌==◌, ◌^◌, if◌then◌else◌, ◌+◌, ◌*◌, ◌-◌}
 use Rattle.std.specs.Char.{is_ascii_digit}
 use Rattle.std.specs.List.{list_all}
 use Rattle.am_text.specs.declared.form.FormNode.{FormNode}
@@ -24,9 +24,9 @@ read_on n (d ∷ ds) = read_on (10 * n + (d - 48)) ds
 abbrev pub number_of : List ℕ → Option FormNode
 number_of [] = None
 number_of (b ∷ bs) =
-  if b == 45
-  then (if nat_lt (2 ^ 63) (read_on 0 bs) then None else Some (Number (neg_ℤ (pos (read_on 0 bs)))))
-  else (if nat_lt (read_on 0 (b ∷ bs)) (2 ^ 63) then Some (Number (pos (read_on 0 (b ∷ bs)))) else None)
+    if b == 45
+    then (if nat_lt (2 ^ 63) (read_on 0 bs) then None else Some (Number (neg_ℤ (pos (read_on 0 bs)))))
+    else (if nat_lt (read_on 0 (b ∷ bs)) (2 ^ 63) then Some (Number (pos (read_on 0 (b ∷ bs)))) else None)
 
 -- the form that a run of a word's bytes is: a number where it is spelled as one, else a word; nothing for a
 -- number that doesn't fit

@@ -35,4 +35,4 @@ LinesAreRead = (limit depth : ℕ) (forms : List Form) → list_all is_sound for
 -- least the spelling's length and the depth limit at least that with which it was read
 abbrev pub RoundTrip : Type 0
 RoundTrip = (limit depth : ℕ) (bytes : List ℕ) (forms : List Form) → read limit depth bytes ≡ Ok forms →
-  All (λ form. (l d : ℕ) → length (written form) ≤ l → depth ≤ d → ReadsAs l d (written form) (form ∷ [])) forms
+    All (λ form. (l d : ℕ) → length (written form) ≤ l → depth ≤ d → ReadsAs l d (written form) (form ∷ [])) forms

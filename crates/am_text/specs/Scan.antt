@@ -1,5 +1,5 @@
 -- The scan from the first byte to the last, and the first fault that it meets.
-use Rattle.std.specs.Prelude.{◌≡◌, ℕ, List, [], ◌∷◌, ◌++◌, length, reverse, Option, Some, None, Result, Ok, Err, nat_lt, ◌==◌, ◌+◌, if◌then◌else◌}
+use Rattle.std.specs.Prelude.{ℕ, List, [], ◌∷◌, ◌++◌, length, reverse, Option, Some, None, Result, Ok, Err, nat_lt, ◌==◌, ◌+◌, if◌then◌else◌}
 use Rattle.am_text.specs.declared.fault.TextFault.{TextFault}
 use Rattle.am_text.specs.declared.fault.TextKind.{TextKind}
 use Rattle.am_text.specs.declared.fault.TextKind.TheVariants.{BadByte, Unclosed, Unopened, TooDeep, BadAtom, TooLong}
@@ -41,6 +41,13 @@ fault p k = Err (record { place = p; kind = k })
 abbrev pub with_form : ℕ → FormNode → Held → Held
 with_form q n h = record { outer = h.outer; forms = h.forms ++ record { place = q; node = n } ∷ [] }
 
+-- a ( at p opens a list, unless as many lists are open as may be
+unfoldable pub opened : ℕ → ℕ → Held → Result State TextFault
+opened depth p h =
+    if nat_lt (length h.outer) depth
+    then Ok (in_mode Between (record { outer = record { place = p; before = h.forms } ∷ h.outer; forms = [] }))
+    else fault p TooDeep
+
 -- a ) at p closes the innermost list, which is a form of the list around it; with no list open it is Unopened
 abbrev pub closed_in : ℕ → List Open → List Form → Result State TextFault
 closed_in p [] forms = fault p Unopened
@@ -49,19 +56,17 @@ closed_in p (o ∷ outer) forms = Ok (in_mode Between (with_form o.place (node.L
 unfoldable pub closed : ℕ → Held → Result State TextFault
 closed p h = closed_in p h.outer h.forms
 
--- A byte at p that continues neither a word nor a text nor a comment: a blank, a ; that begins a comment, a ( that
--- opens a list if the depth allows, a ), a " that begins a text, a word's byte that begins a word; any other is BadByte.
+-- A byte at p that continues neither a word nor a text nor a comment: a blank, a ; that begins a comment, a (,
+-- a ), a " that begins a text, a word's byte that begins a word; any other is BadByte.
 unfoldable pub between : ℕ → ℕ → ℕ → Held → Result State TextFault
 between depth p b h =
-  if is_blank b then Ok (in_mode Between h)
-  else if b == 59 then Ok (in_mode Comment h)
-  else if b == 40 then (if nat_lt (length h.outer) depth
-    then Ok (in_mode Between (record { outer = record { place = p; before = h.forms } ∷ h.outer; forms = [] }))
-    else fault p TooDeep)
-  else if b == 41 then closed p h
-  else if b == 34 then Ok (in_mode (Text p []) h)
-  else if is_word_byte b then Ok (in_mode (Word p (b ∷ [])) h)
-  else fault p BadByte
+    if is_blank b then Ok (in_mode Between h)
+    else if b == 59 then Ok (in_mode Comment h)
+    else if b == 40 then opened depth p h
+    else if b == 41 then closed p h
+    else if b == 34 then Ok (in_mode (Text p []) h)
+    else if is_word_byte b then Ok (in_mode (Word p (b ∷ [])) h)
+    else fault p BadByte
 
 -- the end of a word that began at q: a number that doesn't fit is a BadAtom there
 abbrev pub ended_by : ℕ → Option FormNode → Held → Result Held TextFault
@@ -75,18 +80,18 @@ ended_word q word h = ended_by q (atom_of word) h
 -- before this byte.
 unfoldable pub in_word : ℕ → ℕ → List ℕ → ℕ → ℕ → Held → Result State TextFault
 in_word depth q word p b h =
-  if is_word_byte b
-  then (if length word == 48 then fault q BadAtom else Ok (in_mode (Word q (word ++ b ∷ [])) h))
-  else ended_word q word h >>= between depth p b
+    if is_word_byte b
+    then (if length word == 48 then fault q BadAtom else Ok (in_mode (Word q (word ++ b ∷ [])) h))
+    else ended_word q word h >>= between depth p b
 
 -- A byte inside a text that began at q: the " that ends it, or one more of its bytes, but a 256th makes it a BadAtom
 -- at q; any other is BadByte.
 unfoldable pub in_text : ℕ → List ℕ → ℕ → ℕ → Held → Result State TextFault
 in_text q text p b h =
-  if b == 34 then Ok (in_mode Between (with_form q (node.Text text) h))
-  else if is_text_byte b
-  then (if length text == 255 then fault q BadAtom else Ok (in_mode (Text q (text ++ b ∷ [])) h))
-  else fault p BadByte
+    if b == 34 then Ok (in_mode Between (with_form q (node.Text text) h))
+    else if is_text_byte b
+    then (if length text == 255 then fault q BadAtom else Ok (in_mode (Text q (text ++ b ∷ [])) h))
+    else fault p BadByte
 
 -- a comment goes on up to a line feed
 abbrev pub step_in : ℕ → ℕ → ℕ → Mode → Held → Result State TextFault
@@ -123,5 +128,5 @@ start = in_mode Between (record { outer = []; forms = [] })
 -- The forms of the bytes, or the first fault, where there may be at most `limit` bytes and at most `depth` lists open.
 unfoldable pub read : ℕ → ℕ → List ℕ → Result (List Form) TextFault
 read limit depth bytes =
-  if nat_lt limit (length bytes) then fault limit TooLong
-  else run depth 0 bytes start >>= finished (length bytes)
+    if nat_lt limit (length bytes) then fault limit TooLong
+    else run depth 0 bytes start >>= finished (length bytes)

@@ -1,5 +1,5 @@
 -- How a form is written, which forms can be written, and when two forms differ in their places alone.
-use Rattle.std.specs.Prelude.{◌≡◌, ℕ, ℤ, pos, negsuc, List, [], ◌∷◌, ◌++◌, ◌&&◌, not, Bool, length, map, Result, Ok, nat_lt, nat_le, ◌^◌}
+use Rattle.std.specs.Prelude.{◌≡◌, ℕ, ℤ, pos, negsuc, List, [], ◌∷◌, ◌++◌, ◌&&◌, not, Bool, length, map, Ok, nat_lt, nat_le, ◌^◌}
 use Rattle.std.specs.List.{list_all, join_with_byte}
 use Rattle.std.specs.Fmt.{signed_decimal}
 use Rattle.am_text.specs.declared.form.Form.{Form}

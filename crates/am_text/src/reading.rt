@@ -2,7 +2,7 @@ ghost use Rattle.std.specs.Prelude.{◌≡◌, ◌<◌, ◌^◌, List, Ok, IfOk,
 ghost use Rattle.am_text.specs.Answers.{Gives, IsAnswer};
 ghost use Rattle.am_text.specs.declared.form.Form.{Form};
 ghost use Rattle.am_text.specs.Grammar.{ReadsWithin};
-ghost use Rattle.am_text.specs.Scan.{held, state, closed, between, ended_word, in_word, in_text, step, run, finished, ended, start, read};
+ghost use Rattle.am_text.specs.Scan.{held, state, opened, closed, between, ended_word, in_word, in_text, step, run, finished, ended, start, read};
 
 use crate::atom::atom;
 use crate::bytes::{is_blank, is_text_byte, is_word_byte};
@@ -14,6 +14,13 @@ use am_term::Name;
 use sqlite_items::Items;
 use std::alloc::Global;
 
+/// How deep lists may be, and where memory comes from.
+#[derive(Drop)]
+struct Scanner {
+    alloc: Global,
+    depth: u32,
+}
+
 /// The scan after a `)`.
 #[tactic(auto, unfolding(crate::specs::Scan::closed), using(crate::proofs::Steps::scan_laws))]
 fn close(lists: Lists, place: u32) -> Result<Scan, ReadError>
@@ -23,78 +30,12 @@ fn close(lists: Lists, place: u32) -> Result<Scan, ReadError>
     let Some(open) = outer.pop() else {
         return Err(ReadError::at(place, TextKind::Unopened));
     };
-    let node = FormNode::List(forms);
-    let mut forms = open.before;
-    forms.push(Form {
-        place: open.place,
-        node,
-    })?;
-    Ok(Scan {
-        mode: Mode::Between,
-        lists: Lists { outer, forms },
-    })
-}
-
-/// The scan after a byte between forms.
-#[tactic(auto, unfolding(crate::specs::Scan::between), using(crate::proofs::Steps::scan_laws))]
-fn between(
-    alloc: Global,
-    depth: u32,
-    lists: Lists,
-    place: u32,
-    byte: u8,
-) -> Result<Scan, ReadError>
-    ensures { Gives state result (between depth place byte (held lists)) }
-{
-    if is_blank(byte) {
-        return Ok(Scan {
-            mode: Mode::Between,
-            lists,
-        });
-    }
-    if byte == b';' {
-        return Ok(Scan {
-            mode: Mode::Comment,
-            lists,
-        });
-    }
-    if byte == b'(' {
-        let Lists { mut outer, forms } = lists;
-        if outer.len() >= depth as usize {
-            return Err(ReadError::at(place, TextKind::TooDeep));
-        }
-        outer.push(Open {
-            place,
-            before: forms,
-        })?;
-        let lists = Lists {
-            outer,
-            forms: Items::new(alloc),
-        };
-        return Ok(Scan {
-            mode: Mode::Between,
-            lists,
-        });
-    }
-    if byte == b')' {
-        return close(lists, place);
-    }
-    if byte == b'"' {
-        let bytes = Name::empty(alloc);
-        return Ok(Scan {
-            mode: Mode::Text { place, bytes },
-            lists,
-        });
-    }
-    if is_word_byte(byte) {
-        let mut bytes = Name::empty(alloc);
-        bytes.push(byte)?;
-        return Ok(Scan {
-            mode: Mode::Word { place, bytes },
-            lists,
-        });
-    }
-    Err(ReadError::at(place, TextKind::BadByte))
+    let around = Lists {
+        outer,
+        forms: open.before,
+    };
+    let lists = around.with_form(open.place, FormNode::List(forms))?;
+    Ok(Scan::new(Mode::Between, lists))
 }
 
 /// The lists after the end of a word.
@@ -102,116 +43,147 @@ fn between(
 fn end_word(lists: Lists, start: u32, word: Name) -> Result<Lists, ReadError>
     ensures { Gives held result (ended_word start word (held lists)) }
 {
-    let Some(node) = atom(word) else {
-        return Err(ReadError::at(start, TextKind::BadAtom));
-    };
-    let Lists { outer, mut forms } = lists;
-    forms.push(Form { place: start, node })?;
-    Ok(Lists { outer, forms })
+    match atom(word) {
+        Some(node) => lists.with_form(start, node),
+        None => Err(ReadError::at(start, TextKind::BadAtom)),
+    }
 }
 
-/// The scan after a byte behind a word's byte.
-#[tactic(auto, unfolding(crate::specs::Scan::in_word), using(crate::proofs::Steps::scan_laws))]
-fn in_word(
-    alloc: Global,
-    depth: u32,
-    lists: Lists,
-    start: u32,
-    word: Name,
-    place: u32,
-    byte: u8,
-) -> Result<Scan, ReadError>
-    ensures { Gives state result (in_word depth start word place byte (held lists)) }
+/// The scan after a byte inside a text.
+#[tactic(auto, unfolding(crate::specs::Scan::in_text), using(crate::proofs::Steps::scan_laws))]
+fn in_text(lists: Lists, start: u32, text: Name, place: u32, byte: u8) -> Result<Scan, ReadError>
+    ensures { Gives state result (in_text start text place byte (held lists)) }
 {
-    if is_word_byte(byte) {
+    if byte == b'"' {
+        let lists = lists.with_form(start, FormNode::Text(text))?;
+        return Ok(Scan::new(Mode::Between, lists));
+    }
+    if !is_text_byte(byte) {
+        return Err(ReadError::at(place, TextKind::BadByte));
+    }
+    if text.as_str().len() == 255 {
+        return Err(ReadError::at(start, TextKind::BadAtom));
+    }
+    let mut bytes = text;
+    bytes.push(byte)?;
+    let mode = Mode::Text {
+        place: start,
+        bytes,
+    };
+    Ok(Scan::new(mode, lists))
+}
+
+impl Scanner {
+    /// The scan after a `(`.
+    #[tactic(auto, unfolding(crate::specs::Scan::opened), using(crate::proofs::Steps::scan_laws))]
+    fn open(&self, lists: Lists, place: u32) -> Result<Scan, ReadError>
+        ensures { Gives state result (opened self.now.depth place (held lists)) }
+    {
+        let Lists { mut outer, forms } = lists;
+        if outer.len() >= self.depth as usize {
+            return Err(ReadError::at(place, TextKind::TooDeep));
+        }
+        outer.push(Open {
+            place,
+            before: forms,
+        })?;
+        let forms = Items::new(self.alloc);
+        Ok(Scan::new(Mode::Between, Lists { outer, forms }))
+    }
+
+    /// The scan after a byte between forms.
+    #[tactic(auto, unfolding(crate::specs::Scan::between), using(crate::proofs::Steps::scan_laws))]
+    fn between(&self, lists: Lists, place: u32, byte: u8) -> Result<Scan, ReadError>
+        ensures { Gives state result (between self.now.depth place byte (held lists)) }
+    {
+        if is_blank(byte) {
+            return Ok(Scan::new(Mode::Between, lists));
+        }
+        if byte == b';' {
+            return Ok(Scan::new(Mode::Comment, lists));
+        }
+        if byte == b'(' {
+            return self.open(lists, place);
+        }
+        if byte == b')' {
+            return close(lists, place);
+        }
+        if byte == b'"' {
+            let bytes = Name::empty(self.alloc);
+            return Ok(Scan::new(Mode::Text { place, bytes }, lists));
+        }
+        if is_word_byte(byte) {
+            let mut bytes = Name::empty(self.alloc);
+            bytes.push(byte)?;
+            return Ok(Scan::new(Mode::Word { place, bytes }, lists));
+        }
+        Err(ReadError::at(place, TextKind::BadByte))
+    }
+
+    /// The scan after a byte behind a word's byte.
+    #[tactic(auto, unfolding(crate::specs::Scan::in_word), using(crate::proofs::Steps::scan_laws))]
+    fn in_word(
+        &self,
+        lists: Lists,
+        start: u32,
+        word: Name,
+        place: u32,
+        byte: u8,
+    ) -> Result<Scan, ReadError>
+        ensures { Gives state result (in_word self.now.depth start word place byte (held lists)) }
+    {
+        if !is_word_byte(byte) {
+            let lists = end_word(lists, start, word)?;
+            return self.between(lists, place, byte);
+        }
         if word.as_str().len() == 48 {
             return Err(ReadError::at(start, TextKind::BadAtom));
         }
         let mut bytes = word;
         bytes.push(byte)?;
-        return Ok(Scan {
-            mode: Mode::Word {
-                place: start,
-                bytes,
-            },
-            lists,
-        });
-    }
-    let lists = end_word(lists, start, word)?;
-    between(alloc, depth, lists, place, byte)
-}
-
-/// The scan after a byte inside a text.
-#[tactic(auto, unfolding(crate::specs::Scan::in_text), using(crate::proofs::Steps::scan_laws))]
-fn in_text(
-    lists: Lists,
-    start: u32,
-    text: Name,
-    place: u32,
-    byte: u8,
-) -> Result<Scan, ReadError>
-    ensures { Gives state result (in_text start text place byte (held lists)) }
-{
-    if byte == b'"' {
-        let Lists { outer, mut forms } = lists;
-        let node = FormNode::Text(text);
-        forms.push(Form { place: start, node })?;
-        return Ok(Scan {
-            mode: Mode::Between,
-            lists: Lists { outer, forms },
-        });
-    }
-    if is_text_byte(byte) {
-        if text.as_str().len() == 255 {
-            return Err(ReadError::at(start, TextKind::BadAtom));
-        }
-        let mut bytes = text;
-        bytes.push(byte)?;
-        return Ok(Scan {
-            mode: Mode::Text {
-                place: start,
-                bytes,
-            },
-            lists,
-        });
-    }
-    Err(ReadError::at(place, TextKind::BadByte))
-}
-
-/// The scan after the byte at the place.
-#[tactic(auto, unfolding(crate::specs::Scan::step), using(crate::proofs::Steps::scan_laws))]
-fn step(
-    alloc: Global,
-    depth: u32,
-    scan: Scan,
-    place: u32,
-    byte: u8,
-) -> Result<Scan, ReadError>
-    ensures { Gives state result (step depth place byte (state scan)) }
-{
-    let Scan { mode, lists } = scan;
-    match mode {
-        Mode::Between => between(alloc, depth, lists, place, byte),
-        Mode::Word {
+        let mode = Mode::Word {
             place: start,
             bytes,
-        } => in_word(alloc, depth, lists, start, bytes, place, byte),
-        Mode::Text {
-            place: start,
-            bytes,
-        } => in_text(lists, start, bytes, place, byte),
-        Mode::Comment => {
-            if byte == b'\n' {
-                return Ok(Scan {
-                    mode: Mode::Between,
-                    lists,
-                });
-            }
-            Ok(Scan {
-                mode: Mode::Comment,
-                lists,
-            })
+        };
+        Ok(Scan::new(mode, lists))
+    }
+
+    /// The scan after the byte at the place.
+    #[tactic(auto, unfolding(crate::specs::Scan::step), using(crate::proofs::Steps::scan_laws))]
+    fn step(&self, scan: Scan, place: u32, byte: u8) -> Result<Scan, ReadError>
+        ensures { Gives state result (step self.now.depth place byte (state scan)) }
+    {
+        let Scan { mode, lists } = scan;
+        match mode {
+            Mode::Between => self.between(lists, place, byte),
+            Mode::Word {
+                place: start,
+                bytes,
+            } => self.in_word(lists, start, bytes, place, byte),
+            Mode::Text {
+                place: start,
+                bytes,
+            } => in_text(lists, start, bytes, place, byte),
+            Mode::Comment if byte == b'\n' => Ok(Scan::new(Mode::Between, lists)),
+            Mode::Comment => Ok(Scan::new(Mode::Comment, lists)),
         }
+    }
+
+    /// The scan after all bytes.
+    #[tactic(auto, using(crate::proofs::Steps::run_laws))]
+    fn run(&self, bytes: &[u8]) -> Result<Scan, ReadError>
+        requires { length bytes.now < 2 ^ 32 }
+        ensures { Gives state result (run self.now.depth 0 bytes.now start) }
+    {
+        let lists = Lists {
+            outer: Items::new(self.alloc),
+            forms: Items::new(self.alloc),
+        };
+        let mut scan = Scan::new(Mode::Between, lists);
+        for i in 0..bytes.len() {
+            scan = self.step(scan, i as u32, bytes[i])?;
+        }
+        Ok(scan)
     }
 }
 
@@ -237,33 +209,10 @@ fn finish(scan: Scan, place: u32) -> Result<Items<Form>, ReadError>
         Mode::Word {
             place: start,
             bytes,
-        } => {
-            let lists = end_word(lists, start, bytes)?;
-            end(lists, place)
-        }
+        } => end(end_word(lists, start, bytes)?, place),
         Mode::Text { .. } => Err(ReadError::at(place, TextKind::Unclosed)),
         Mode::Comment => end(lists, place),
     }
-}
-
-/// The scan after all bytes.
-#[tactic(auto, using(crate::proofs::Steps::run_laws))]
-fn run(alloc: Global, depth: u32, bytes: &[u8]) -> Result<Scan, ReadError>
-    requires { length bytes.now < 2 ^ 32 }
-    ensures { Gives state result (run depth 0 bytes.now start) }
-{
-    let lists = Lists {
-        outer: Items::new(alloc),
-        forms: Items::new(alloc),
-    };
-    let mut scan = Scan {
-        mode: Mode::Between,
-        lists,
-    };
-    for i in 0..bytes.len() {
-        scan = step(alloc, depth, scan, i as u32, bytes[i])?;
-    }
-    Ok(scan)
 }
 
 #[tactic(auto, unfolding(crate::specs::Scan::read), using(crate::proofs::Steps::scan_laws))]
@@ -273,7 +222,11 @@ fn forms(alloc: Global, bytes: &[u8], limits: TextLimits) -> Result<Items<Form>,
     if bytes.len() > limits.bytes as usize {
         return Err(ReadError::at(limits.bytes, TextKind::TooLong));
     }
-    let scan = run(alloc, limits.depth, bytes)?;
+    let scanner = Scanner {
+        alloc,
+        depth: limits.depth,
+    };
+    let scan = scanner.run(bytes)?;
     finish(scan, bytes.len() as u32)
 }
 
@@ -294,11 +247,7 @@ fn answer(alloc: Global, bytes: &[u8], limits: TextLimits) -> Result<Items<Form>
 /// The forms that the bytes are, or their first fault: each form with the offset of its first byte,
 /// each fault with the offset where it is met. `NoMemory` may come for any bytes. The format is this
 /// project's own.
-pub fn read_forms(
-    alloc: Global,
-    bytes: &[u8],
-    limits: TextLimits,
-) -> Result<Items<Form>, TextFault>
+pub fn read_forms(alloc: Global, bytes: &[u8], limits: TextLimits) -> Result<Items<Form>, TextFault>
     // The forms or the first fault, by the scan.
     ensures exact { IsAnswer result (read limits.bytes limits.depth bytes.now) }
     // The bytes are these forms by the grammar, within the limits.

@@ -1,4 +1,9 @@
-use crate::form::Form;
+ghost use Rattle.std.specs.Prelude.{◌≡◌, Ok};
+ghost use Rattle.am_text.specs.Answers.{Gives};
+ghost use Rattle.am_text.specs.Scan.{held, with_form};
+
+use crate::fault::ReadError;
+use crate::form::{Form, FormNode};
 use am_term::Name;
 use sqlite_items::Items;
 
@@ -25,9 +30,30 @@ pub struct Lists {
     pub forms: Items<Form>,
 }
 
+impl Lists {
+    /// The lists with one more form.
+    #[tactic(auto, using(crate::proofs::Steps::scan_laws))]
+    pub fn with_form(self, place: u32, node: FormNode) -> Result<Lists, ReadError>
+        ensures { Gives held result (Ok (with_form place node (held self))) }
+    {
+        let Lists { outer, mut forms } = self;
+        forms.push(Form { place, node })?;
+        Ok(Lists { outer, forms })
+    }
+}
+
 /// What the bytes so far have left open and made.
 #[derive(Drop)]
 pub struct Scan {
     pub mode: Mode,
     pub lists: Lists,
+}
+
+impl Scan {
+    /// The scan with these parts.
+    pub fn new(mode: Mode, lists: Lists) -> Scan
+        ensures { result ≡ record { mode = mode; lists = lists } }
+    {
+        Scan { mode, lists }
+    }
 }

@@ -104,7 +104,10 @@ fn a_form_has_the_place_of_its_first_byte(rt: HostRuntime) -> Result<(), Fail> {
     if let Ok(forms) = read_forms(alloc, b" ;(\n( (\"b\"c)-1)\r()", WIDE) {
         push_places(&mut places, forms.as_slice())?;
     }
-    assert_eq!(rt; places.as_slice(), [0, 1, 3, 4, 6, 7, 10, 12, 16].as_slice());
+    assert_eq!(rt;
+        places.as_slice(),
+        [0, 1, 3, 4, 6, 7, 10, 12, 16].as_slice()
+    );
     Ok(())
 }
 
@@ -224,7 +227,10 @@ fn a_large_text_is_read(rt: HostRuntime) -> Result<(), Fail> {
         bytes: 1_048_575,
         ..WIDE
     };
-    assert_eq!(rt; fault_of(rt, &text, short), at(1_048_575, TextKind::TooLong));
+    assert_eq!(rt;
+        fault_of(rt, &text, short),
+        at(1_048_575, TextKind::TooLong)
+    );
     Ok(())
 }
 
@@ -236,7 +242,10 @@ fn open_lists_take_no_stack(rt: HostRuntime) -> Result<(), Fail> {
         depth: 1_048_576,
         ..WIDE
     };
-    assert_eq!(rt; fault_of(rt, &text, deep), at(1_048_576, TextKind::Unclosed));
+    assert_eq!(rt;
+        fault_of(rt, &text, deep),
+        at(1_048_576, TextKind::Unclosed)
+    );
     let none = TextLimits { depth: 0, ..WIDE };
     assert_eq!(rt; fault_of(rt, &text, none), at(0, TextKind::TooDeep));
     Ok(())
