@@ -9,8 +9,8 @@ use Rattle.am_text.specs.declared.form.FormNode.TheVariants.{Word, Number}
 use Rattle.am_text.specs.Bytes.{is_word_byte}
 use Rattle.am_text.specs.Atoms.{is_number, read_on, number_of, atom_of}
 use Rattle.am_text.specs.Grammar.{node_height}
-use Rattle.am_text.specs.Spelling.{fits, is_word, node_sound}
-use Rattle.am_text.proofs.Folds.{height-Word, height-Number, sound-Word, sound-Number}
+use Rattle.am_text.specs.Spelling.{fits, is_word, node_writable}
+use Rattle.am_text.proofs.Folds.{height-Word, height-Number, writable-Word, writable-Number}
 
 abbrev some : FormNode → Option FormNode
 some n = Some n
@@ -40,22 +40,22 @@ unfolding atom_of
 atom_height w n e = some_if (is_number w) _ _ n (node_height n ≡ 0) e (λ _ k. numeral_height w n k) (λ _ k. word_height w n k)
 
 -- ---- an atom can be written
-number_sound : (k : ℤ) (n : FormNode) → fits k ≡ true → some (Number k) ≡ some n → node_sound n ≡ true
-number_sound k n f e = subst (λ (m : FormNode). node_sound m ≡ true) (same (Number k) n e) (sound-Number k ∙ f)
+number_writable : (k : ℤ) (n : FormNode) → fits k ≡ true → some (Number k) ≡ some n → node_writable n ≡ true
+number_writable k n f e = subst (λ (m : FormNode). node_writable m ≡ true) (same (Number k) n e) (writable-Number k ∙ f)
 
 minus_fits : (k : ℕ) → nat_lt (2 ^ 63) k ≡ false → fits (neg_ℤ (pos k)) ≡ true
 minus_fits zero f = refl
 minus_fits (suc k) f = let le : suc k ≤ 2 ^ 63 = grind (arith, nat_tests) in lt-ltb k (2 ^ 63) (omega arith)
 
-numeral_sound : (w : List ℕ) (n : FormNode) → number_of w ≡ some n → node_sound n ≡ true
-numeral_sound [] n e = absurd cc
-numeral_sound (b ∷ bs) n e =
-    some_if (b == 45) _ _ n (node_sound n ≡ true) e
-    (λ _ k. some_if (nat_lt (2 ^ 63) (read_on 0 bs)) _ _ n (node_sound n ≡ true) k (λ _ j. absurd cc) (λ f j. number_sound (neg_ℤ (pos (read_on 0 bs))) n (minus_fits (read_on 0 bs) f) j))
-    (λ _ k. some_if (nat_lt (read_on 0 (b ∷ bs)) (2 ^ 63)) _ _ n (node_sound n ≡ true) k (λ t j. number_sound (pos (read_on 0 (b ∷ bs))) n t j) (λ _ j. absurd cc))
+numeral_writable : (w : List ℕ) (n : FormNode) → number_of w ≡ some n → node_writable n ≡ true
+numeral_writable [] n e = absurd cc
+numeral_writable (b ∷ bs) n e =
+    some_if (b == 45) _ _ n (node_writable n ≡ true) e
+    (λ _ k. some_if (nat_lt (2 ^ 63) (read_on 0 bs)) _ _ n (node_writable n ≡ true) k (λ _ j. absurd cc) (λ f j. number_writable (neg_ℤ (pos (read_on 0 bs))) n (minus_fits (read_on 0 bs) f) j))
+    (λ _ k. some_if (nat_lt (read_on 0 (b ∷ bs)) (2 ^ 63)) _ _ n (node_writable n ≡ true) k (λ t j. number_writable (pos (read_on 0 (b ∷ bs))) n t j) (λ _ j. absurd cc))
 
-word_sound : (b : ℕ) (w : List ℕ) (n : FormNode) → is_word_byte b ≡ true → list_all is_word_byte w ≡ true → length w < 48 → is_number (b ∷ w) ≡ false → some (Word (b ∷ w)) ≡ some n → node_sound n ≡ true
-word_sound b w n e es lt f k = subst (λ (m : FormNode). node_sound m ≡ true) (same (Word (b ∷ w)) n k) (sound-Word (b ∷ w) ∙ is)
+word_writable : (b : ℕ) (w : List ℕ) (n : FormNode) → is_word_byte b ≡ true → list_all is_word_byte w ≡ true → length w < 48 → is_number (b ∷ w) ≡ false → some (Word (b ∷ w)) ≡ some n → node_writable n ≡ true
+word_writable b w n e es lt f k = subst (λ (m : FormNode). node_writable m ≡ true) (same (Word (b ∷ w)) n k) (writable-Word (b ∷ w) ∙ is)
   where
     short : nat_le (length (b ∷ w)) 48 ≡ true
     short = grind (arith, nat_tests)
@@ -66,6 +66,6 @@ word_sound b w n e es lt f k = subst (λ (m : FormNode). node_sound m ≡ true) 
     is : is_word (b ∷ w) ≡ true
     is = rw (some_byte, short, e, es, f) refl
 
-pub atom_sound : (b : ℕ) (w : List ℕ) (n : FormNode) → is_word_byte b ≡ true → list_all is_word_byte w ≡ true → length w < 48 → atom_of (b ∷ w) ≡ some n → node_sound n ≡ true
+pub atom_writable : (b : ℕ) (w : List ℕ) (n : FormNode) → is_word_byte b ≡ true → list_all is_word_byte w ≡ true → length w < 48 → atom_of (b ∷ w) ≡ some n → node_writable n ≡ true
 unfolding atom_of
-atom_sound b w n e es lt a = some_if (is_number (b ∷ w)) _ _ n (node_sound n ≡ true) a (λ _ k. numeral_sound (b ∷ w) n k) (λ f k. word_sound b w n e es lt f k)
+atom_writable b w n e es lt a = some_if (is_number (b ∷ w)) _ _ n (node_writable n ≡ true) a (λ _ k. numeral_writable (b ∷ w) n k) (λ f k. word_writable b w n e es lt f k)

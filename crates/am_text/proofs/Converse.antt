@@ -1,5 +1,5 @@
 -- What is in the grammar, no deeper than the limit and no longer, is read.
-use Rattle.std.proofs.Common.{◌≡◌, ℕ, ◌+◌, ◌≤◌, Bool, true, false, max, List, [], ◌∷◌, ◌++◌, length, Result, Ok, Some, refl, sym, ap, subst, ◌∙◌, arith, append_assoc}
+use Rattle.std.proofs.Common.{◌≡◌, ℕ, ◌+◌, ◌≤◌, Bool, true, false, max, List, [], ◌∷◌, ◌++◌, length, Result, Ok, Err, Some, refl, sym, ap, subst, ◌∙◌, arith, append_assoc}
 use Rattle.std.proofs.lemmas.Bool.{le-ltb}
 use Rattle.std.proofs.lemmas.List.{append-nil, length-append}
 use Rattle.am_text.specs.declared.fault.TextFault.{TextFault}
@@ -120,6 +120,10 @@ read_again limit depth bytes fs r =
     let whole = again depth (length bytes) true 0 bytes fs r.0 (record { outer = []; forms = [] }) [] refl (omega (arith, r.1)) in
     rw (le-ltb limit (length bytes) r.2)
     (bytes_are depth (length bytes) 0 bytes (bytes ++ []) start (sym (append-nil bytes)) ∙ whole ∙ all_read depth (length bytes) (0 + length bytes) fs)
+
+-- a fault comes only where there is no reading
+pub fault_means_none : (limit depth : ℕ) (bytes : List ℕ) (f : TextFault) (fs : List Form) → read limit depth bytes ≡ Err f → ReadsWithin limit depth bytes fs → ⊥
+fault_means_none limit depth bytes f fs e r = absurd (let k : forms_read fs ≡ Err f = sym (read_again limit depth bytes fs r) ∙ e in cc)
 
 -- no bytes have two readings
 pub one_reading_is : (bytes : List ℕ) (fs gs : List Form) → Reads true 0 bytes fs → Reads true 0 bytes gs → fs ≡ gs

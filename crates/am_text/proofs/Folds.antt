@@ -10,7 +10,7 @@ use Rattle.am_text.specs.declared.form.FormNode.TheVariants.{rolls-Word, rolls-N
 use Rattle.am_text.specs.declared.form.FormNode.TheFolds.{fold-Form, fold-FormNode, fold-roll-Form, fold-roll-FormNode}
 use Rattle.am_text.specs.declared.form.FormNode.TheOpen.{FormNode-F, Form-F}
 use Rattle.am_text.specs.Grammar.{greatest, height_step, form_height, height, node_height}
-use Rattle.am_text.specs.Spelling.{text_step, form_text, written, node_written, is_word, is_text, fits, sound_step, form_sound, is_sound, node_sound, bare_step, form_bare, bare, node_bare}
+use Rattle.am_text.specs.Spelling.{text_step, form_text, written, node_written, is_word, is_text, fits, writable_step, form_writable, is_writable, node_writable, bare_step, form_bare, bare, node_bare}
 
 module _ (A A' : Type 0) (step : FormNode-F A A' → A) (form_step : Form-F A A' → A') where
   on-Word : (w : List ℕ) → fold-FormNode A A' step form_step (node.Word w) ≡ step (FormNode-F.Word w)
@@ -71,25 +71,25 @@ unfolding node_written written
 written-form p n = on-form (List ℕ) (List ℕ) text_step form_text p n
 
 -- ---- what can be written
-pub sound-Word : (w : List ℕ) → node_sound (node.Word w) ≡ is_word w
-unfolding node_sound
-sound-Word w = on-Word Bool Bool sound_step form_sound w
+pub writable-Word : (w : List ℕ) → node_writable (node.Word w) ≡ is_word w
+unfolding node_writable
+writable-Word w = on-Word Bool Bool writable_step form_writable w
 
-pub sound-Number : (n : ℤ) → node_sound (node.Number n) ≡ fits n
-unfolding node_sound
-sound-Number n = on-Number Bool Bool sound_step form_sound n
+pub writable-Number : (n : ℤ) → node_writable (node.Number n) ≡ fits n
+unfolding node_writable
+writable-Number n = on-Number Bool Bool writable_step form_writable n
 
-pub sound-Text : (t : List ℕ) → node_sound (node.Text t) ≡ is_text t
-unfolding node_sound
-sound-Text t = on-Text Bool Bool sound_step form_sound t
+pub writable-Text : (t : List ℕ) → node_writable (node.Text t) ≡ is_text t
+unfolding node_writable
+writable-Text t = on-Text Bool Bool writable_step form_writable t
 
-pub sound-List : (fs : List Form) → node_sound (node.List fs) ≡ list_all (λ b. b) (map is_sound fs)
-unfolding node_sound is_sound
-sound-List fs = on-List Bool Bool sound_step form_sound fs
+pub writable-List : (fs : List Form) → node_writable (node.List fs) ≡ list_all (λ b. b) (map is_writable fs)
+unfolding node_writable is_writable
+writable-List fs = on-List Bool Bool writable_step form_writable fs
 
-pub sound-form : (p : ℕ) (n : FormNode) → is_sound (record { place = p; node = n }) ≡ node_sound n
-unfolding node_sound is_sound
-sound-form p n = on-form Bool Bool sound_step form_sound p n
+pub writable-form : (p : ℕ) (n : FormNode) → is_writable (record { place = p; node = n }) ≡ node_writable n
+unfolding node_writable is_writable
+writable-form p n = on-form Bool Bool writable_step form_writable p n
 
 -- ---- without places
 pub bare-Word : (w : List ℕ) → node_bare (node.Word w) ≡ node.Word w

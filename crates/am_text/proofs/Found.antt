@@ -176,6 +176,31 @@ module _ (depth last : ℕ) where
     subst (λ (k : ℕ). Rest depth h.outer (h.forms ++ form q n ∷ []) k (b ∷ bs) fs) (omega arith) (between_more p b bs (with_form q n h) fs low claims e),
   )
 
+  -- one more byte of a word, of a text
+  longer_word : (p q b : ℕ) (w bs : List ℕ) (h : Held) (fs : List Form) → is_word_byte b ≡ true → Word_rest q (w ++ b ∷ []) h (p + 1) bs fs → Word_rest q w h p (b ∷ bs) fs
+  longer_word p q b w bs h fs t r = (
+    b ∷ r.0,
+    r.1,
+    r.2,
+    ap (λ (x : List ℕ). b ∷ x) r.3,
+    rw (t, r.4) refl,
+    omega (arith, r.5, length-append w (b ∷ [])),
+    r.6,
+    ap atom_of (sym (append_assoc w (b ∷ []) r.0)) ∙ r.7,
+    subst (λ (k : ℕ). Rest depth h.outer (h.forms ++ form q r.2 ∷ []) k r.1 fs) (omega arith) r.8,
+  )
+
+  longer_text : (p q b : ℕ) (t bs : List ℕ) (h : Held) (fs : List Form) → is_text_byte b ≡ true → Text_rest q (t ++ b ∷ []) h (p + 1) bs fs → Text_rest q t h p (b ∷ bs) fs
+  longer_text p q b t bs h fs g r = (
+    b ∷ r.0,
+    r.1,
+    ap (λ (x : List ℕ). b ∷ x) r.2,
+    rw (g, r.3) refl,
+    omega (arith, r.4, length-append t (b ∷ [])),
+    subst (λ (x : List ℕ). Rest depth h.outer (h.forms ++ form q (node.Text x) ∷ []) (p + length (b ∷ r.0) + 1) r.1 fs) (append_assoc t (b ∷ []) r.0)
+        (subst (λ (j : ℕ). Rest depth h.outer (h.forms ++ form q (node.Text ((t ++ b ∷ []) ++ r.0)) ∷ []) j r.1 fs) (omega arith) r.5),
+  )
+
   word_more : (p q b : ℕ) (w bs : List ℕ) (h : Held) (fs : List Form) → length h.outer ≤ depth → Claims bs → length w ≤ 48 → then_run (p + 1) bs (in_word depth q w p b h) ≡ ok fs → Word_rest q w h p (b ∷ bs) fs
   unfolding in_word ended_word
   word_more p q b w bs h fs low claims le e =
@@ -183,17 +208,7 @@ module _ (depth last : ℕ) where
       (λ t k. by_if (length w == 48) _ _ (then_run (p + 1) bs) fs (Word_rest q w h p (b ∷ bs) fs) k
       (λ _ k2. absurd cc)
       (λ f k2. let short : length w < 48 = grind (arith, nat_tests) in
-      let r = claims.word (p + 1) q (w ++ b ∷ []) h fs low (omega (arith, length-append w (b ∷ []))) k2 in (
-        b ∷ r.0,
-        r.1,
-        r.2,
-        ap (λ (x : List ℕ). b ∷ x) r.3,
-        rw (t, r.4) refl,
-        omega (arith, r.5, length-append w (b ∷ [])),
-        r.6,
-        ap atom_of (sym (append_assoc w (b ∷ []) r.0)) ∙ r.7,
-        subst (λ (k : ℕ). Rest depth h.outer (h.forms ++ form q r.2 ∷ []) k r.1 fs) (omega arith) r.8,
-      )))
+      longer_word p q b w bs h fs t (claims.word (p + 1) q (w ++ b ∷ []) h fs low (omega (arith, length-append w (b ∷ []))) k2)))
       (λ f k. ended_more (atom_of w) q p b w bs h fs low claims f le refl k)
 
   text_more : (p q b : ℕ) (t bs : List ℕ) (h : Held) (fs : List Form) → length h.outer ≤ depth → Claims bs → length t ≤ 255 → then_run (p + 1) bs (in_text q t p b h) ≡ ok fs → Text_rest q t h p (b ∷ bs) fs
@@ -213,15 +228,7 @@ module _ (depth last : ℕ) where
       (λ g k. by_if (length t == 255) _ _ (then_run (p + 1) bs) fs (Text_rest q t h p (b ∷ bs) fs) k
       (λ _ k2. absurd cc)
       (λ f k2. let short : length t < 255 = grind (arith, nat_tests) in
-      let r = claims.text (p + 1) q (t ++ b ∷ []) h fs low (omega (arith, length-append t (b ∷ []))) k2 in (
-        b ∷ r.0,
-        r.1,
-        ap (λ (x : List ℕ). b ∷ x) r.2,
-        rw (g, r.3) refl,
-        omega (arith, r.4, length-append t (b ∷ [])),
-        subst (λ (x : List ℕ). Rest depth h.outer (h.forms ++ form q (node.Text x) ∷ []) (p + length (b ∷ r.0) + 1) r.1 fs) (append_assoc t (b ∷ []) r.0)
-            (subst (λ (j : ℕ). Rest depth h.outer (h.forms ++ form q (node.Text ((t ++ b ∷ []) ++ r.0)) ∷ []) j r.1 fs) (omega arith) r.5),
-      )))
+      longer_text p q b t bs h fs g (claims.text (p + 1) q (t ++ b ∷ []) h fs low (omega (arith, length-append t (b ∷ []))) k2)))
       (λ _ k. absurd cc))
 
   line_by : (x : Bool) (p b : ℕ) (bs : List ℕ) (h : Held) (fs : List Form) → length h.outer ≤ depth → (b == 10) ≡ x → Claims bs → then_run (p + 1) bs (Ok (in_mode (if x then Between else Comment) h)) ≡ ok fs → Line_rest h p (b ∷ bs) fs

@@ -10,9 +10,9 @@ use Rattle.am_text.specs.declared.form.FormNode.TheVariants as node
 use Rattle.am_text.specs.Bytes.{is_word_byte, is_text_byte}
 use Rattle.am_text.specs.Atoms.{is_number, atom_of}
 use Rattle.am_text.specs.Grammar.{Reads, End, Blank, EndsWord, form, height, node_height, highest}
-use Rattle.am_text.specs.Spelling.{written, node_written, is_word, is_text, is_sound, node_sound, bare, node_bare, lines}
+use Rattle.am_text.specs.Spelling.{written, node_written, is_word, is_text, is_writable, node_writable, bare, node_bare, lines}
 use Rattle.am_text.proofs.FormInduct.{form_induct}
-use Rattle.am_text.proofs.Folds.{height-List, height-form, written-Word, written-Number, written-Text, written-List, written-form, sound-Word, sound-Number, sound-Text, sound-List, sound-form, bare-List, bare-form}
+use Rattle.am_text.proofs.Folds.{height-List, height-form, written-Word, written-Number, written-Text, written-List, written-form, writable-Word, writable-Number, writable-Text, writable-List, writable-form, bare-List, bare-form}
 use Rattle.am_text.proofs.Found.{Front, Always, nest_front, text_front, atom_front}
 use Rattle.am_text.proofs.Numbers.{word_is}
 use Rattle.am_text.proofs.Decimals.{decimal_spells}
@@ -33,18 +33,18 @@ atom_before p (b ∷ w) n lt le e a =
 
 -- a form that can be written, written at p, is the same form, placed
 abbrev pub FormLaw : Form → Type 0
-FormLaw f = is_sound f ≡ true → (p : ℕ) → (g : Form) × (bare g ≡ bare f) × (height g ≡ height f) × Before p (written f) g
+FormLaw f = is_writable f ≡ true → (p : ℕ) → (g : Form) × (bare g ≡ bare f) × (height g ≡ height f) × Before p (written f) g
 
 abbrev NodeLaw : FormNode → Type 0
-NodeLaw n = node_sound n ≡ true → (p : ℕ) → (m : FormNode) × (node_bare m ≡ node_bare n) × (node_height m ≡ node_height n) × Before p (node_written n) (form p m)
+NodeLaw n = node_writable n ≡ true → (p : ℕ) → (m : FormNode) × (node_bare m ≡ node_bare n) × (node_height m ≡ node_height n) × Before p (node_written n) (form p m)
 
 -- so are the members of a list
 abbrev ListLaw : List Form → Type 0
-ListLaw fs = list_all (λ b. b) (map is_sound fs) ≡ true → (p : ℕ) → (gs : List Form) × (map bare gs ≡ map bare fs) × (highest gs ≡ highest fs) × Reads false p (join_with_byte 32 (map written fs)) gs
+ListLaw fs = list_all (λ b. b) (map is_writable fs) ≡ true → (p : ℕ) → (gs : List Form) × (map bare gs ≡ map bare fs) × (highest gs ≡ highest fs) × Reads false p (join_with_byte 32 (map written fs)) gs
 
 word_law : (w : List ℕ) → NodeLaw (node.Word w)
 word_law w ok p =
-    let s : is_word w ≡ true = sym (sound-Word w) ∙ ok in
+    let s : is_word w ≡ true = sym (writable-Word w) ∙ ok in
     let g = both (nat_lt 0 (length w)) (nat_le (length w) 48 && (list_all is_word_byte w && not (is_number w))) s in
     let g2 = both (nat_le (length w) 48) (list_all is_word_byte w && not (is_number w)) g.1 in
     let g3 = both (list_all is_word_byte w) (not (is_number w)) g2.1 in
@@ -58,12 +58,12 @@ word_law w ok p =
 
 number_law : (n : ℤ) → NodeLaw (node.Number n)
 number_law n ok p =
-    let s = decimal_spells n (sym (sound-Number n) ∙ ok) in
+    let s = decimal_spells n (sym (writable-Number n) ∙ ok) in
     (node.Number n, refl, refl, subst (λ (x : List ℕ). Before p x (form p (node.Number n))) (sym (written-Number n)) (atom_before p _ (node.Number n) s.some_byte s.short s.bytes s.atom))
 
 text_law : (t : List ℕ) → NodeLaw (node.Text t)
 text_law t ok p =
-    let s : is_text t ≡ true = sym (sound-Text t) ∙ ok in
+    let s : is_text t ≡ true = sym (writable-Text t) ∙ ok in
     let g = both (nat_le (length t) 255) (list_all is_text_byte t) s in
     let short : length t ≤ 255 = grind (arith, nat_tests) in (
       node.Text t,
@@ -75,7 +75,7 @@ text_law t ok p =
 
 list_law : (fs : List Form) → ListLaw fs → NodeLaw (node.List fs)
 list_law fs law ok p =
-    let r = law (sym (sound-List fs) ∙ ok) (p + 1) in (
+    let r = law (sym (writable-List fs) ∙ ok) (p + 1) in (
       node.List r.0,
       bare-List r.0 ∙ ap (λ (x : List Form). node.List x) r.1 ∙ sym (bare-List fs),
       height-List r.0 ∙ ap (λ (k : ℕ). 1 + k) r.2 ∙ sym (height-List fs),
@@ -85,7 +85,7 @@ list_law fs law ok p =
 
 placed_law : (q : ℕ) (n : FormNode) → NodeLaw n → FormLaw (record { place = q; node = n })
 placed_law q n law ok p =
-    let r = law (sym (sound-form q n) ∙ ok) p in (
+    let r = law (sym (writable-form q n) ∙ ok) p in (
       form p r.0,
       bare-form p r.0 ∙ ap (λ (m : FormNode). form 0 m) r.1 ∙ sym (bare-form q n),
       height-form p r.0 ∙ r.2 ∙ sym (height-form q n),
@@ -97,11 +97,11 @@ none_law ok p = ([], refl, refl, End false p)
 
 more_law : (f : Form) (fs : List Form) → FormLaw f → ListLaw fs → ListLaw (f ∷ fs)
 more_law f [] law more ok p =
-    let g = both (is_sound f) true ok in
+    let g = both (is_writable f) true ok in
     let r = law g.0 p in
     (r.0 ∷ [], ap (λ (x : Form). x ∷ []) r.1, ap (λ (k : ℕ). max k 0) r.2, subst (λ (x : List ℕ). Reads false p x (r.0 ∷ [])) (append-nil (written f)) (r.3 false [] [] tt (End false (p + length (written f)))))
 more_law f (f2 ∷ fs) law more ok p =
-    let g = both (is_sound f) (list_all (λ b. b) (map is_sound (f2 ∷ fs))) ok in
+    let g = both (is_writable f) (list_all (λ b. b) (map is_writable (f2 ∷ fs))) ok in
     let r = law g.0 p in
     let rest = join_with_byte 32 (map written (f2 ∷ fs)) in
     let s = more g.1 (p + length (written f) + 1) in
@@ -111,10 +111,10 @@ pub form_law : (f : Form) → FormLaw f
 form_law = form_induct NodeLaw FormLaw ListLaw word_law number_law text_law list_law placed_law none_law more_law
 
 -- ---- forms on lines of their own
-pub lines_law : (fs : List Form) → list_all is_sound fs ≡ true → (p : ℕ) → (gs : List Form) × (map bare gs ≡ map bare fs) × (highest gs ≡ highest fs) × Reads true p (lines fs) gs
+pub lines_law : (fs : List Form) → list_all is_writable fs ≡ true → (p : ℕ) → (gs : List Form) × (map bare gs ≡ map bare fs) × (highest gs ≡ highest fs) × Reads true p (lines fs) gs
 lines_law [] ok p = ([], refl, refl, End true p)
 lines_law (f ∷ fs) ok p =
-    let g = both (is_sound f) (list_all is_sound fs) ok in
+    let g = both (is_writable f) (list_all is_writable fs) ok in
     let r = form_law f g.0 p in
     let s = lines_law fs g.1 (p + length (written f) + 1) in
     (r.0 ∷ s.0, rw (r.1, s.1) refl, rw (r.2, s.2) refl, r.3 true (10 ∷ lines fs) s.0 refl (Blank true (p + length (written f)) 10 (lines fs) s.0 refl s.3))

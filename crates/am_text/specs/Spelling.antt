@@ -44,20 +44,20 @@ abbrev pub fits : ℤ → Bool
 fits (pos n) = nat_lt n (2 ^ 63)
 fits (negsuc n) = nat_lt n (2 ^ 63)
 
-abbrev pub sound_step : FormNode-F Bool Bool → Bool
-sound_step (FormNode-F.Word w) = is_word w
-sound_step (FormNode-F.Number n) = fits n
-sound_step (FormNode-F.Text t) = is_text t
-sound_step (FormNode-F.List bs) = list_all (λ b. b) bs
+abbrev pub writable_step : FormNode-F Bool Bool → Bool
+writable_step (FormNode-F.Word w) = is_word w
+writable_step (FormNode-F.Number n) = fits n
+writable_step (FormNode-F.Text t) = is_text t
+writable_step (FormNode-F.List bs) = list_all (λ b. b) bs
 
-abbrev pub form_sound : Form-F Bool Bool → Bool
-form_sound f = f.node
+abbrev pub form_writable : Form-F Bool Bool → Bool
+form_writable f = f.node
 
-unfoldable pub is_sound : Form → Bool
-is_sound = fold-Form Bool Bool sound_step form_sound
+unfoldable pub is_writable : Form → Bool
+is_writable = fold-Form Bool Bool writable_step form_writable
 
-unfoldable pub node_sound : FormNode → Bool
-node_sound = fold-FormNode Bool Bool sound_step form_sound
+unfoldable pub node_writable : FormNode → Bool
+node_writable = fold-FormNode Bool Bool writable_step form_writable
 
 -- ---- a form with all places 0
 abbrev pub bare_step : FormNode-F FormNode Form → FormNode

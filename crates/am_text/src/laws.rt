@@ -1,4 +1,4 @@
-ghost use Rattle.am_text.specs.Laws.{ReadIsInGrammar, GrammarIsRead, OneReading, ReadCanBeWritten, WrittenIsRead, LinesAreRead, RoundTrip};
+ghost use Rattle.am_text.specs.Laws.{ReadIsInGrammar, GrammarIsRead, FaultsHaveNoReading, OneReading, ReadCanBeWritten, WrittenIsRead, LinesAreRead, RoundTrip};
 
 /// What is read is in the grammar, and keeps the limits.
 pub fn what_is_read_is_in_the_grammar()
@@ -8,6 +8,11 @@ pub fn what_is_read_is_in_the_grammar()
 /// What is in the grammar and keeps the limits is read.
 pub fn what_is_in_the_grammar_is_read()
     ensures { GrammarIsRead }
+{}
+
+/// A fault comes only where the bytes have no reading within the limits.
+pub fn faults_have_no_reading()
+    ensures { FaultsHaveNoReading }
 {}
 
 /// No bytes have two readings.

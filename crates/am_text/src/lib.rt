@@ -18,8 +18,9 @@ mod writing;
 pub use fault::{TextFault, TextKind};
 pub use form::{Form, FormNode};
 pub use laws::{
-    lines_are_read, no_bytes_have_two_readings, round_trip, what_is_in_the_grammar_is_read,
-    what_is_read_is_in_the_grammar, what_is_written_is_read, what_was_read_can_be_written,
+    faults_have_no_reading, lines_are_read, no_bytes_have_two_readings, round_trip,
+    what_is_in_the_grammar_is_read, what_is_read_is_in_the_grammar, what_is_written_is_read,
+    what_was_read_can_be_written,
 };
 pub use limits::TextLimits;
 pub use reading::read_forms;
