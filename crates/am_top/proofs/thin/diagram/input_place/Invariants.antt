@@ -1,0 +1,11 @@
+use Rattle.std.proofs.Common.{◌≡◌, ◌+◌, length}
+use Rattle.am_diagram.specs.Canonical.{names_of}
+use Rattle.am_top.specs.TheoryDraft.{place_of, place_after}
+use Rattle.am_top.proofs.thin.diagram.input_place.Given as goal
+
+-- the place in what is left, counted from the start
+abbrev pub invariant-loop-rest : goal.invariant-loop-rest
+invariant-loop-rest l = (place_after l.at (place_of l.name (names_of l.rest)) ≡ place_of l.name (names_of l.inputs)) × (l.at + length l.rest ≡ length l.inputs)
+
+abbrev pub decreases-loop-rest : goal.decreases-loop-rest
+decreases-loop-rest l = length l.rest

@@ -1,0 +1,11 @@
+use Rattle.std.proofs.Common.{◌≡◌, length}
+use Rattle.std.specs.List.{list_all}
+use Rattle.am_term.specs.Names.{is_digit}
+use Rattle.am_top.proofs.thin.theory.all_digits.Given as goal
+
+-- what is left decides
+abbrev pub invariant-loop-rest : goal.invariant-loop-rest
+invariant-loop-rest l = list_all is_digit l.word ≡ list_all is_digit l.rest
+
+abbrev pub decreases-loop-rest : goal.decreases-loop-rest
+decreases-loop-rest l = length l.rest

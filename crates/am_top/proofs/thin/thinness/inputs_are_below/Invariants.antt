@@ -1,0 +1,11 @@
+use Rattle.std.proofs.Common.{◌≡◌, length}
+use Rattle.std.specs.List.{list_all}
+use Rattle.am_top.specs.ThinTheory.{is_sort_below}
+use Rattle.am_top.proofs.thin.thinness.inputs_are_below.Given as goal
+
+-- what is left decides
+abbrev pub invariant-loop-rest : goal.invariant-loop-rest
+invariant-loop-rest l = list_all (λ e. is_sort_below l.count e.1) l.inputs ≡ list_all (λ e. is_sort_below l.count e.1) l.rest
+
+abbrev pub decreases-loop-rest : goal.decreases-loop-rest
+decreases-loop-rest l = length l.rest

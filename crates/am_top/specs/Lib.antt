@@ -1,0 +1,10 @@
+pub mod Answers
+pub mod Codes
+pub mod DiagramDraft
+pub mod DiagramLines
+pub mod FirstUnit
+pub mod TheoryDraft
+pub mod TheoryLines
+pub mod ThinDiagram
+pub mod ThinTheory
+pub mod Words

@@ -1,0 +1,63 @@
+ghost use Rattle.std.specs.Prelude.{◌≡◌, ◌≢◌, ◌⊎◌, None, Some, map, string_bytes};
+ghost use Rattle.am_outside.specs.Causes.{Rose};
+ghost use Rattle.am_outside.specs.Growth.{Grows, GrowsByPart};
+ghost use Rattle.am_world.specs.Interpretation.{IsWorld};
+ghost use Rattle.am_exec.specs.Right.{Right};
+ghost use Rattle.am_fortran.specs.Text.{unit_text};
+ghost use Rattle.am_fortran.specs.declared.unit.Unit.{Unit as Subroutine};
+ghost use Rattle.am_top.specs.declared.answer.Answer.{Answer};
+ghost use Rattle.am_top.specs.declared.thin.model.ThinTheory.{ThinTheory};
+ghost use Rattle.am_top.specs.declared.thin.model.ThinDiagram.{ThinDiagram};
+ghost use Rattle.am_top.specs.ThinTheory.{theory_of, HasNoTheory};
+ghost use Rattle.am_top.specs.ThinDiagram.{diagram_of};
+ghost use Rattle.am_top.specs.Answers.{reading, WhereRead, AllSure, WordsAnswer, IsMade, MakesText, HasNoMake, text_of, message_of, message_at_fault, status_of};
+
+use crate::answering::answer_words;
+use crate::printing::print;
+use crate::status::Status;
+use am_outside::{Library, Sink};
+use am_world::World;
+use std::alloc::Global;
+
+/// Carries out the command that the words are: `make THEORY DIAGRAM` prints the subroutine that solves
+/// the diagram over the theory on `out`. Messages go to `err`. The answer is the exit status. `world` is
+/// any interpretation: it is in the contract alone.
+#[tactic(auto, using(crate::proofs::Commands::command_laws))]
+pub fn run<L: Library, O: Sink, E: Sink, W: World>(
+    alloc: Global,
+    words: &[String],
+    library: &mut L,
+    out: &mut O,
+    err: &mut E,
+    world: &W,
+) -> Status
+    // What was printed is the text of the unit of the two files.
+    ensures printed { result ≡ Status.Ok → WhereRead (reading (map string_bytes words.now)) (L.told library.old) (λ a b.
+        (t : ThinTheory) × (d : ThinDiagram) × (u : Subroutine) × IsMade a b t d u × Grows (O.held out.old) (O.held out.new) (unit_text u)) }
+    // It is right for the diagram, in every interpretation of the theory's signature.
+    ensures right { result ≡ Status.Ok → WhereRead (reading (map string_bytes words.now)) (L.told library.old) (λ a b.
+        (t : ThinTheory) (d : ThinDiagram) (u : Subroutine) → IsMade a b t d u → IsWorld (theory_of t).sig (W.meaning world.now) → Right (W.meaning world.now) (theory_of t) (diagram_of d) u) }
+    // Status, text and message are those of the one answer that the words and the files have.
+    ensures answered { result ≢ Status.Write → (answer : Answer) × WordsAnswer (reading (map string_bytes words.now)) (L.told library.old) answer
+        × (result ≡ status_of answer) × Grows (O.held out.old) (O.held out.new) (text_of answer) × Grows (E.held err.old) (E.held err.new) (message_of answer) }
+    ensures at_fault { result ≡ Status.Write → (answer : Answer) × WordsAnswer (reading (map string_bytes words.now)) (L.told library.old) answer
+        × GrowsByPart (O.held out.old) (O.held out.new) (text_of answer) × GrowsByPart (E.held err.old) (E.held err.new) (message_at_fault answer) }
+    ensures usage { result ≡ Status.Usage → reading (map string_bytes words.now) ≡ None }
+    ensures no_reading { reading (map string_bytes words.now) ≡ None → (result ≡ Status.Usage) ⊎ (result ≡ Status.Write) }
+    ensures not_built { result ≡ Status.NotBuilt → WhereRead (reading (map string_bytes words.now)) (L.told library.old) (λ a b. HasNoTheory a ⊎ HasNoMake a b) }
+    ensures read { result ≡ Status.Read → Rose (L.faults library.old) (L.faults library.new) }
+    ensures not_read { result ≢ Status.Read → result ≢ Status.Write → L.faults library.new ≡ L.faults library.old }
+    ensures sure { AllSure (reading (map string_bytes words.now)) (L.sure library.old) → result ≢ Status.Read }
+    ensures write { result ≡ Status.Write → Rose (O.faults out.old) (O.faults out.new) ⊎ Rose (E.faults err.old) (E.faults err.new) }
+    ensures not_write { result ≢ Status.Write → (O.faults out.new ≡ O.faults out.old) × (E.faults err.new ≡ E.faults err.old) }
+    ensures nothing { result ≢ Status.Ok → result ≢ Status.Write → O.held out.new ≡ O.held out.old }
+    // Without a cause nothing is refused.
+    ensures complete { WhereRead (reading (map string_bytes words.now)) (L.told library.old) (λ a b. (t : ThinTheory) (d : ThinDiagram) (u : Subroutine) → IsMade a b t d u
+        → (Rose (L.faults library.old) (L.faults library.new) → ⊥) → (Rose (O.faults out.old) (O.faults out.new) → ⊥) → (Rose (E.faults err.old) (E.faults err.new) → ⊥)
+        → (result ≡ Status.Ok) ⊎ (result ≡ Status.NoMemory)) }
+    // No other status comes from this command.
+    ensures only { (result ≡ Status.Ok) ⊎ (result ≡ Status.Usage) ⊎ (result ≡ Status.NotBuilt) ⊎ (result ≡ Status.Read) ⊎ (result ≡ Status.Write) ⊎ (result ≡ Status.NoMemory) }
+{
+    let answer = answer_words(alloc, words, library);
+    print(out, err, &answer)
+}

@@ -1,0 +1,42 @@
+//! The program `amphion`: it hands its words, the file system, its two streams and an interpretation
+//! to `run`, and ends with the status as its exit code.
+//!
+//! What a text that it prints means is said by the contract of `am_top::run`.
+#![tactic(auto)]
+
+use am_outside::{Folder, StdErr, StdOut};
+use am_top::{Status, run};
+use am_world::TrivialWorld;
+use std::alloc::{AllocGlobal, Global};
+use std::env;
+use std::io;
+use std::process::ExitCode;
+use std::rt::Env;
+
+fn main(rt: HostRuntime) -> ExitCode {
+    let alloc = rt.alloc();
+    let mut err = StdErr::new(rt.stderr());
+    let Ok(words) = words_of(&rt, alloc) else {
+        return ExitCode::from(Status::NoMemory.code());
+    };
+    let mut library = Folder::new(&rt);
+    let mut out = StdOut::new(rt.stdout());
+    let status = run(
+        alloc,
+        words.as_slice(),
+        &mut library,
+        &mut out,
+        &mut err,
+        &TrivialWorld,
+    );
+    ExitCode::from(status.code())
+}
+
+// The command line without the program's name.
+fn words_of<R: Env + AllocGlobal>(rt: &R, alloc: Global) -> io::Result<Vec<String>> {
+    let mut words = Vec::new(alloc);
+    for word in env::args(rt)?.skip(1) {
+        words.push(word)?;
+    }
+    Ok(words)
+}
