@@ -1,0 +1,11 @@
+pub mod Cases
+pub mod Closed
+pub mod Heads
+pub mod Rulesets
+pub mod Lists
+pub mod Nodes
+pub mod Quick
+pub mod Shapes
+pub mod Trans
+pub mod Walks
+pub mod Unfold

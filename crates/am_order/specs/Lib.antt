@@ -1,0 +1,5 @@
+pub mod Cases
+pub mod Closure
+pub mod Order
+pub mod Parts
+pub mod Precedence
