@@ -1,0 +1,11 @@
+pub mod Instances
+pub mod Counting
+pub mod Keeping
+pub mod Smaller
+pub mod Solved
+pub mod Standing
+pub mod Steps
+pub mod Unified
+pub mod Walks
+pub mod Renamed
+pub mod Matched
