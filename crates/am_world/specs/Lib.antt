@@ -1,3 +1,4 @@
+pub mod ClauseTruth
 pub mod Interpretation
 pub mod Truth
 pub mod Value

@@ -1,12 +1,15 @@
 //! Interpretations of a signature by whole numbers, and what is true in them.
 //!
 //! `specs/Interpretation.antt` says what an interpretation is, `Value` which number a term stands for,
-//! `Truth` which formulas hold. Nothing here computes: a world has members for contracts alone, so
-//! no byte that a program prints can depend on one. The crate rests on `am_term`.
+//! `Truth` which formulas hold, `ClauseTruth` which clauses. Nothing here computes: a world has members for contracts alone, so
+//! no byte that a program prints can depend on one. The crate rests on `am_term` and `am_clause`.
 #![tactic(auto)]
 
 mod laws;
 mod world;
 
-pub use laws::{law_of_instances, law_of_members, law_of_values, trivial_is_world};
+pub use laws::{
+    law_of_clauses, law_of_instances, law_of_members, law_of_renaming, law_of_values,
+    trivial_is_world,
+};
 pub use world::{TrivialWorld, World};

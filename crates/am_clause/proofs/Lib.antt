@@ -1,0 +1,14 @@
+pub mod Bijections
+pub mod Clauses
+pub mod Fewer
+pub mod Firsts
+pub mod Lengths
+pub mod Members
+pub mod Merges
+pub mod Opposites
+pub mod Parts
+pub mod Passes
+pub mod Places
+pub mod Renames
+pub mod Sizes
+pub mod Tallies

@@ -1,0 +1,7 @@
+use Rattle.std.proofs.Common.{◌≡◌}
+use Rattle.am_clause.proofs.Merges.{merging_to}
+use Rattle.am_clause.proofs.merging.merge.Given as goal
+
+-- the literals so far, merged
+abbrev pub invariant-loop-literal : goal.invariant-loop-literal
+invariant-loop-literal l = l.made ≡ merging_to l.literal-index l.literals

@@ -1,0 +1,11 @@
+pub mod ClauseForm
+pub mod Count
+pub mod Distinct
+pub mod Faults
+pub mod Forms
+pub mod Merge
+pub mod Numbered
+pub mod Renaming
+pub mod Size
+pub mod Tautology
+pub mod Variables
