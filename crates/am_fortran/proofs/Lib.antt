@@ -1,1 +1,13 @@
+pub mod Firsts
+pub mod Grouping
 pub mod Lists
+pub mod Again
+pub mod Cards
+pub mod Digits
+pub mod Drafting
+pub mod Parts
+pub mod Reached
+pub mod Rows
+pub mod Runs
+pub mod WordsOf
+pub mod Elements

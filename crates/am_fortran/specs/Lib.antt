@@ -1,3 +1,11 @@
+pub mod Columns
+pub mod Drafts
+pub mod Faults
+pub mod Guess
+pub mod Items
 pub mod Joined
+pub mod Lines
 pub mod Text
+pub mod Units
 pub mod Well
+pub mod Words

@@ -1,5 +1,5 @@
 -- Which declarations and statements there are: what the type of a unit keeps.
-use Rattle.std.specs.Prelude.{◌&&◌, ◌==◌, ℕ, Bool, true, not, length, nat_le}
+use Rattle.std.specs.Prelude.{◌&&◌, ◌==◌, ℕ, Bool, true, not, length, nat_le, ◌^◌, ℤ, pos, negsuc, nat_lt}
 use Rattle.std.specs.List.{list_all}
 use Rattle.am_term.specs.Names.{is_fortran_name}
 use Rattle.am_fortran.specs.declared.statement.FortranType.{FortranType}
@@ -43,3 +43,19 @@ unfoldable pub is_statement : Statement → Bool
 is_statement (Call r args) = is_fortran_name r && (list_all is_operand args && is_between 1 18 (length args))
 is_statement (Assign t from) = is_fortran_name t && is_operand from
 is_statement (Apply t f args) = is_fortran_name t && (is_fortran_name f && (list_all is_operand args && nat_le (length args) 12))
+
+-- from -2 ^ 63 to 2 ^ 63 - 1
+abbrev pub is_i64 : ℤ → Bool
+is_i64 (pos n) = nat_lt n (2 ^ 63)
+is_i64 (negsuc n) = nat_lt n (2 ^ 63)
+
+-- the numbers of the code's type are those of 64 bits
+abbrev pub fits_operand : Operand → Bool
+fits_operand (operand.Name n) = true
+fits_operand (operand.Int z) = is_i64 z
+fits_operand (operand.Text t) = true
+
+unfoldable pub fits_statement : Statement → Bool
+fits_statement (Call r args) = list_all fits_operand args
+fits_statement (Assign t from) = fits_operand from
+fits_statement (Apply t f args) = list_all fits_operand args

@@ -2,9 +2,11 @@ ghost use Rattle.std.specs.Prelude.{◌≡◌, ◌++◌, map, IfOk, OnOk};
 ghost use Rattle.std.specs.List.{flat_map};
 ghost use Rattle.std.specs.String.{string_bytes};
 ghost use Rattle.std.specs.Fmt.{decimal};
+ghost use Rattle.am_fortran.specs.Items.{item_text};
 ghost use Rattle.am_fortran.specs.Joined.{joined};
 ghost use Rattle.am_fortran.specs.Text.{line, continued, with_list, operand_text, type_text, extents_text, declaration_text, statement_text, head_text, unit_text};
 
+use crate::item::Item;
 use crate::statement::{Decl, FortranType, Operand, Statement};
 use crate::unit::Unit;
 use am_term::{Name, NoMemory};
@@ -251,4 +253,17 @@ fn push_line(out: &mut Vec<u8>, statement: &[u8]) -> Result<(), NoMemory>
     out.extend_from_slice(statement)?;
     out.push(b'\n')?;
     Ok(())
+}
+
+/// Writes the text of an item.
+#[tactic(auto, unfolding(crate::specs::Items::item_text))]
+pub fn push_item(alloc: Global, out: &mut Vec<u8>, item: &Item) -> Result<(), NoMemory>
+    ensures { OnOk result (out.new.items ≡ out.old.items ++ item_text item.now) }
+{
+    match item {
+        Item::Head { name, dummies } => push_head(alloc, out, name, dummies.as_slice()),
+        Item::Declaration(declaration) => push_declaration(alloc, out, declaration),
+        Item::Executable(statement) => push_statement(alloc, out, statement),
+        Item::End => push_line(out, b"END"),
+    }
 }
