@@ -8,5 +8,4 @@ ghost use Rattle.am_top.specs.ThinDiagram.{IsDiagramText};
 pub fn law_of_texts()
     ensures theory { (bytes : List ℕ) (t u : ThinTheory) → IsTheoryText bytes t → IsTheoryText bytes u → t ≡ u }
     ensures diagram { (t : ThinTheory) (bytes : List ℕ) (d e : ThinDiagram) → IsTrue (is_thin_theory t) → IsDiagramText t bytes d → IsDiagramText t bytes e → d ≡ e }
-{
-}
+{}

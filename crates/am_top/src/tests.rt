@@ -8,17 +8,19 @@ use std::alloc::Global;
 use std::process::Abort;
 use std::test::Fail;
 
-const TWO_ROUTINES: &str = "(theory 1)\n(sort utc (char 32))\n(sort et double)\n(routine UTC2ET (utc) (utc2et et))\n(routine SCALE (et) (scale et))\n";
+const TWO_ROUTINES: &str =
+    "(theory 1)\n(sort utc (char 32))\n(sort et double)\n(routine UTC2ET (utc) (utc2et et))\n(routine SCALE (et) (scale et))\n";
 
-const CLOCK: &str = "(theory 1)\n(sort time)\n(sort utc (char 32))\n(sort et double)\n(function time-of (et) time)\n(function utc-time (utc) time)\n(routine UTC2ET (utc) (utc2et et))\n(axiom (all ((x utc)) (= (utc-time x) (time-of (utc2et x)))))\n";
+const CLOCK: &str =
+    "(theory 1)\n(sort time)\n(sort utc (char 32))\n(sort et double)\n(function time-of (et) time)\n(function utc-time (utc) time)\n(routine UTC2ET (utc) (utc2et et))\n(axiom (all ((x utc)) (= (utc-time x) (time-of (utc2et x)))))\n";
 
-const CONV: &str =
-    "(diagram CONV)\n(input U utc)\n(output E et)\n(require (= E (utc2et U)))\n";
+const CONV: &str = "(diagram CONV)\n(input U utc)\n(output E et)\n(require (= E (utc2et U)))\n";
 
 const NEST: &str =
     "(diagram NEST)\n(input U utc)\n(output E et)\n(require (= E (scale (utc2et U))))\n";
 
-const CONV_UNIT: &str = "      SUBROUTINE CONV(U, E)\n      CHARACTER*(*) U\n      DOUBLE PRECISION E\n      CALL UTC2ET(U, E)\n      END\n";
+const CONV_UNIT: &str =
+    "      SUBROUTINE CONV(U, E)\n      CHARACTER*(*) U\n      DOUBLE PRECISION E\n      CALL UTC2ET(U, E)\n      END\n";
 
 /// What a run left: the status and what the two pages hold.
 #[derive(Drop)]
@@ -95,8 +97,20 @@ fn prints_the_unit(rt: HostRuntime) -> Result<(), Fail> {
 #[test]
 fn refuses_what_is_not_built(rt: HostRuntime) -> Result<(), Fail> {
     let nest = made(rt.alloc(), &["make", "t", "d"], TWO_ROUTINES, NEST, None)?;
-    expect(&rt, nest, Status::NotBuilt, "", "amphion: diagram: not built yet\n");
+    expect(
+        &rt,
+        nest,
+        Status::NotBuilt,
+        "",
+        "amphion: diagram: not built yet\n",
+    );
     let clock = made(rt.alloc(), &["make", "t", "d"], CLOCK, CONV, None)?;
-    expect(&rt, clock, Status::NotBuilt, "", "amphion: theory: not built yet\n");
+    expect(
+        &rt,
+        clock,
+        Status::NotBuilt,
+        "",
+        "amphion: theory: not built yet\n",
+    );
     Ok(())
 }

@@ -8,10 +8,9 @@ use am_outside::{Folder, StdErr, StdOut};
 use am_top::{Status, run};
 use am_world::TrivialWorld;
 use std::alloc::{AllocGlobal, Global};
-use std::env;
-use std::io;
 use std::process::ExitCode;
 use std::rt::Env;
+use std::{env, io};
 
 fn main(rt: HostRuntime) -> ExitCode {
     let alloc = rt.alloc();
