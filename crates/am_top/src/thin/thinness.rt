@@ -16,6 +16,9 @@ use std::alloc::Global;
 pub fn is_thin(alloc: Global, theory: &ThinTheory) -> Result<bool, NoMemory>
     ensures { IfOk result (λ b. b ≡ is_thin_theory theory.now) }
 {
+    if theory.sorts.len() > 256 || theory.routines.len() > 4096 {
+        return Ok(false);
+    }
     let sorts = sorts_differ(alloc, theory.sorts.as_slice())?;
     let outputs = outputs_differ(alloc, theory.routines.as_slice())?;
     let routines = routines_differ(alloc, theory.routines.as_slice())?;
