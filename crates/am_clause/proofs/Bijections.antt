@@ -1,9 +1,8 @@
 -- Numbering by first occurrence is a bijection, and the same for all clauses that are alike.
-use Rattle.std.proofs.Common.{◌≡◌, ◌∙◌, ◌&&◌, ◌||◌, ◌+◌, ◌<◌, ◌≤◌, ◌++◌, ℕ, zero, suc, Bool, true, false, not, cond, refl, sym, ap, subst, arith, IsTrue, List, [], ◌∷◌, map, length, Option, Some, None, slice_get}
-use Rattle.std.specs.List.{filter, list_any}
+use Rattle.std.proofs.Common.{◌≡◌, ◌∙◌, ◌||◌, ◌+◌, ◌<◌, ℕ, zero, suc, Bool, true, false, not, cond, refl, sym, ap, subst, arith, List, [], ◌∷◌, map, length, Some, slice_get}
+use Rattle.std.specs.List.{filter}
 use Rattle.std.proofs.Math.Numerals.{add-one}
-use Rattle.am_term.specs.declared.id.SortId.{SortId}
-use Rattle.am_term.proofs.Tests.{and_left, and_right, and_both, or_left, or_right, never_both, same_tests, fails, true_not, not_true}
+use Rattle.am_term.proofs.Tests.{or_left, or_right, never_both, same_tests, fails}
 use Rattle.am_clause.specs.declared.clause.Clause.{Clause}
 use Rattle.am_clause.specs.Distinct.{among, distinct}
 use Rattle.am_clause.specs.Variables.{Variable, same_variable, in_clause, variables}

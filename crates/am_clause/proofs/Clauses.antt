@@ -1,8 +1,8 @@
 -- From the lists of literals to the clauses.
-use Rattle.std.proofs.Common.{◌≡◌, ◌∙◌, ◌<◌, ◌≤◌, ◌-◌, ◌^◌, ℕ, true, refl, sym, ap, arith, length, map, min}
+use Rattle.std.proofs.Common.{◌≡◌, ◌-◌, ◌^◌, true, refl, ap, length, map, min}
 use Rattle.std.proofs.lemmas.Grind.{common_steps}
 use Rattle.am_term.specs.declared.term.Formula.{Formula}
-use Rattle.am_clause.specs.ClauseForm.{cnf, pos, merged_clause}
+use Rattle.am_clause.specs.ClauseForm.{cnf, merged_clause}
 use Rattle.am_clause.specs.Count.{count}
 use Rattle.am_clause.specs.Forms.{capped, form}
 use Rattle.am_clause.specs.Renaming.{renumbered}

@@ -1,10 +1,10 @@
 -- A clause of a formula has at most as many different variables as the formula.
-use Rattle.std.proofs.Common.{◌≡◌, ◌∙◌, ◌&&◌, ◌||◌, ◌+◌, ◌<◌, ◌≤◌, ℕ, Bool, true, false, refl, sym, ap, subst, arith, List, [], ◌∷◌, ◌++◌, map, length}
-use Rattle.std.specs.List.{list_any, list_all, flat_map, fold, All, AllByRecursion}
+use Rattle.std.proofs.Common.{◌≡◌, ◌∙◌, ◌&&◌, ◌<◌, ◌≤◌, Bool, true, false, refl, sym, ap, arith, List, [], ◌∷◌, ◌++◌, map, length}
+use Rattle.std.specs.List.{list_all, flat_map, fold, All, AllByRecursion}
 use Rattle.std.proofs.lemmas.List.{append-nil}
 use Rattle.std.proofs.lemmas.List.Concat.{flat_map-append}
 use Rattle.std.proofs.lemmas.List.Elements.{All-from_recursion}
-use Rattle.std.proofs.lemmas.List.Folds.{list_all-append, flat_map-map}
+use Rattle.std.proofs.lemmas.List.Folds.{list_all-append}
 use Rattle.am_term.specs.declared.term.Atom.{Atom}
 use Rattle.am_term.specs.declared.term.Literal.{Literal}
 use Rattle.am_term.specs.declared.term.Formula.{Formula}
@@ -13,13 +13,12 @@ use Rattle.am_term.specs.InductFormula.{formula_induct}
 use Rattle.am_term.specs.Same.{same_literal}
 use Rattle.am_term.proofs.Alike.{same_literal-refl, same_literal-sound}
 use Rattle.am_term.proofs.Tests.{and_left, and_right, and_both, and_true}
-use Rattle.am_clause.specs.declared.clause.Clause.{Clause}
 use Rattle.am_clause.specs.Distinct.{among, distinct}
 use Rattle.am_clause.specs.Merge.{merged}
-use Rattle.am_clause.specs.Variables.{Variable, same_variable, joined, in_atom, in_literals, in_clause, in_formula, in_formulas, variables, variables_of, in_formula-Atom, in_formula-Not, in_formula-And, in_formula-Or, in_formula-Implies, in_formula-Iff, in_formulas-more}
+use Rattle.am_clause.specs.Variables.{Variable, same_variable, in_atom, in_literals, in_clause, in_formula, in_formulas, variables, variables_of, in_formula-Atom, in_formula-Not, in_formula-And, in_formula-Or, in_formula-Implies, in_formula-Iff, in_formulas-more}
 use Rattle.am_clause.specs.ClauseForm.{Lists, followed, product, products, unit, pos, neg, merged_clause, pos-Atom, neg-Atom, pos-Not, neg-Not, pos-And, neg-And, pos-Or, neg-Or, pos-Implies, neg-Implies, pos-Iff, neg-Iff}
 use Rattle.am_clause.specs.Forms.{form}
-use Rattle.am_clause.proofs.Members.{any-flat, all-flat, any-distinct, distinct-fewer, all-from, all-at}
+use Rattle.am_clause.proofs.Members.{any-flat, any-distinct, distinct-fewer, all-from, all-at}
 use Rattle.am_clause.proofs.Places.{same_variable-refl, same_variable-sound}
 
 module _ (g : Variable → Bool) where

@@ -1,10 +1,10 @@
 -- Lists without repetitions, made one member at a time.
-use Rattle.std.proofs.Common.{◌≡◌, ◌∙◌, ◌&&◌, ◌||◌, ◌+◌, ◌<◌, ◌≤◌, ℕ, suc, Bool, true, false, not, cond, refl, sym, ap, subst, arith, List, [], ◌∷◌, ◌++◌, length, take, get_or, if◌then◌else◌}
-use Rattle.std.specs.List.{filter, list_any, fold}
+use Rattle.std.proofs.Common.{◌≡◌, ◌∙◌, ◌&&◌, ◌||◌, Bool, true, false, not, cond, refl, sym, ap, subst, List, [], ◌∷◌, ◌++◌}
+use Rattle.std.specs.List.{filter}
 use Rattle.std.proofs.lemmas.List.{append-nil, append_assoc}
 use Rattle.std.proofs.lemmas.List.Sums.{fold-append}
 use Rattle.std.proofs.lemmas.List.Folds.{list_any-append}
-use Rattle.am_term.proofs.Tests.{and_left, and_right, and_both, and_comm, and_assoc, not_or, or_false, never_both, same_tests, fails, not_true, not_false, true_not, false_not}
+use Rattle.am_term.proofs.Tests.{and_left, and_both, not_or, or_false, never_both, same_tests, fails, not_false, true_not}
 use Rattle.am_clause.specs.Distinct.{among, distinct, with_one, with_new}
 
 -- filters of filters, and filters that agree

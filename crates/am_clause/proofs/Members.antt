@@ -1,9 +1,9 @@
 -- What a list without repetitions has: the same members, and no more of them than another list that has
 -- them all.
-use Rattle.std.proofs.Common.{◌≡◌, ◌∙◌, ◌&&◌, ◌||◌, ◌+◌, ◌<◌, ◌≤◌, ℕ, suc, Bool, true, false, not, cond, refl, sym, ap, subst, arith, List, [], ◌∷◌, ◌++◌, length}
+use Rattle.std.proofs.Common.{◌≡◌, ◌∙◌, ◌&&◌, ◌||◌, ◌<◌, ◌≤◌, suc, Bool, true, false, not, cond, refl, sym, ap, subst, arith, List, [], ◌∷◌, length}
 use Rattle.std.specs.List.{filter, list_any, list_all, flat_map}
 use Rattle.std.proofs.lemmas.List.Folds.{list_any-append, list_all-append}
-use Rattle.am_term.proofs.Tests.{and_left, and_right, and_both, or_cases, or_left, or_right, never_both, not_true, not_false, true_not, same_tests, fails}
+use Rattle.am_term.proofs.Tests.{and_left, and_right, and_both, or_left, or_right, never_both}
 use Rattle.am_clause.specs.Distinct.{among, distinct}
 use Rattle.am_clause.proofs.Firsts.{filters, filter_all}
 

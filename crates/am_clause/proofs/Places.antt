@@ -1,6 +1,6 @@
 -- Variables, their places in a list, and lists of them that grow.
-use Rattle.std.proofs.Common.{◌≡◌, ◌∙◌, ◌&&◌, ◌||◌, ◌==◌, ◌+◌, ◌<◌, ◌≤◌, ℕ, zero, suc, Bool, true, false, cond, refl, sym, ap, subst, arith, List, [], ◌∷◌, ◌++◌, length, take, drop, get_or, Option, Some, None}
-use Rattle.std.specs.List.{flat_map, position_or_len}
+use Rattle.std.proofs.Common.{◌≡◌, ◌∙◌, ◌||◌, ◌==◌, ◌+◌, ◌<◌, ◌≤◌, ℕ, zero, suc, Bool, true, false, refl, sym, ap, arith, List, [], ◌∷◌, ◌++◌, length, take, drop, get_or}
+use Rattle.std.specs.List.{flat_map}
 use Rattle.std.proofs.lemmas.Bool.Decides.{nat_tests}
 use Rattle.std.proofs.Math.Numerals.{add-one}
 use Rattle.std.proofs.Math.Seq.{drop-cons}
@@ -13,7 +13,7 @@ use Rattle.am_term.specs.declared.term.Literal.{Literal}
 use Rattle.am_term.specs.declared.term.Formula.{Formula}
 use Rattle.am_term.proofs.Tests.{and_left, and_right, and_both, never_both}
 use Rattle.am_clause.specs.declared.clause.Clause.{Clause}
-use Rattle.am_clause.specs.Distinct.{among, distinct, with_new}
+use Rattle.am_clause.specs.Distinct.{among, with_new}
 use Rattle.am_clause.specs.Variables.{Variable, same_variable, occurrences, occurrences_all, in_atom, in_literals, in_answer, in_clause, in_formula, in_formulas, variables, variables_of}
 use Rattle.am_clause.specs.Renaming.{places_in}
 use Rattle.am_clause.proofs.Firsts.{with_new-none, with_new-append, with_new-old, with_new-new, with_new-distinct}

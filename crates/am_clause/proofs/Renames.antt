@@ -1,16 +1,15 @@
 -- Renaming: which variables there are afterwards, renaming twice, and by numbers that agree.
-use Rattle.std.proofs.Common.{◌≡◌, ◌∙◌, ◌&&◌, ◌||◌, ◌++◌, ℕ, Bool, true, false, refl, sym, ap, List, [], ◌∷◌, map, Option, Some, None}
-use Rattle.std.specs.List.{list_any, flat_map}
+use Rattle.std.proofs.Common.{◌≡◌, ◌∙◌, ◌++◌, ℕ, Bool, true, false, refl, sym, ap, List, [], ◌∷◌, map, Option, Some, None}
 use Rattle.std.proofs.lemmas.List.{map-append}
-use Rattle.std.proofs.lemmas.List.Folds.{list_any-append, flat_map-map}
+use Rattle.std.proofs.lemmas.List.Folds.{list_any-append}
 use Rattle.am_term.specs.declared.id.SortId.{SortId}
 use Rattle.am_term.specs.declared.id.SymId.{SymId}
 use Rattle.am_term.specs.declared.term.Term.{Term}
-use Rattle.am_term.specs.declared.term.Term.TheVariants.{Var, In, App}
+use Rattle.am_term.specs.declared.term.Term.TheVariants.{Var, App}
 use Rattle.am_term.specs.declared.term.Atom.{Atom}
 use Rattle.am_term.specs.declared.term.Atom.TheVariants.{Rel, Eq}
 use Rattle.am_term.specs.declared.term.Literal.{Literal}
-use Rattle.am_term.specs.Induct.{term_induct, terms_induct}
+use Rattle.am_term.specs.Induct.{term_induct}
 use Rattle.am_term.proofs.Tests.{or_left, or_right}
 use Rattle.am_clause.specs.declared.clause.Clause.{Clause}
 use Rattle.am_clause.specs.Distinct.{among}

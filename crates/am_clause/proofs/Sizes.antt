@@ -1,13 +1,12 @@
 -- The size of a formula: a measure for going down into it.
-use Rattle.std.proofs.Common.{◌≡◌, ◌∙◌, ◌+◌, ◌<◌, ◌≤◌, ℕ, refl, ap, List, map, sum}
+use Rattle.std.proofs.Common.{◌≡◌, ◌∙◌, ◌+◌, ℕ, ap, List, sum}
 use Rattle.std.specs.List.{sum_by}
 use Rattle.std.proofs.lemmas.List.Sums.{sum-map, get_or-le-sum_by}
-use Rattle.am_term.specs.declared.term.Atom.{Atom}
 use Rattle.am_term.specs.declared.term.Formula.{Formula}
 use Rattle.am_term.specs.declared.term.Formula.TheOpen.{Formula-F}
-use Rattle.am_term.specs.declared.term.Formula.TheVariants.{Atom as Atomic, Not, And, Or, Implies, Iff}
+use Rattle.am_term.specs.declared.term.Formula.TheVariants.{Not, And, Or, Implies, Iff}
 use Rattle.am_term.specs.declared.term.Formula.TheFolds.{fold-Formula}
-use Rattle.am_term.specs.FoldFormula.{fold-Atom, fold-Not, fold-And, fold-Or, fold-Implies, fold-Iff}
+use Rattle.am_term.specs.FoldFormula.{fold-Not, fold-And, fold-Or, fold-Implies, fold-Iff}
 
 abbrev size_step : Formula-F ℕ → ℕ
 size_step (Formula-F.Atom a) = 1

@@ -1,6 +1,5 @@
 -- Numbers that stand still at the end of 64 bits, and counts over lists.
-use Rattle.std.proofs.Common.{◌≡◌, ◌∙◌, ◌+◌, ◌*◌, ◌-◌, ◌^◌, ◌≤◌, ◌<◌, ℕ, zero, suc, Bool, true, false, refl, sym, ap, arith, List, [], ◌∷◌, ◌++◌, length, map, sum, min, take, get_or, inl, inr}
-use Rattle.std.specs.List.{fold}
+use Rattle.std.proofs.Common.{◌≡◌, ◌∙◌, ◌+◌, ◌*◌, ◌-◌, ◌^◌, ◌≤◌, ◌<◌, ℕ, zero, suc, refl, ap, arith, List, [], length, map, sum, min, take, get_or, inl, inr}
 use Rattle.std.proofs.Common.{lit<, ◌⊎◌}
 use Rattle.std.proofs.Math.Nat.{mul-suc, mul-zero, zero-mul, mul_comm}
 use Rattle.std.proofs.lemmas.Grind.{common_steps}
@@ -10,8 +9,7 @@ use Rattle.std.proofs.lemmas.Bool.{cases_lt}
 use Rattle.am_term.specs.declared.term.Formula.{Formula}
 use Rattle.am_term.specs.declared.term.Formula.TheViews.{the_lemmas}
 use Rattle.am_clause.specs.Count.{count, count_negated, multiplied, count_laws}
-use Rattle.am_clause.specs.Forms.{capped, form}
-use Rattle.am_clause.proofs.Lengths.{all_counted}
+use Rattle.am_clause.specs.Forms.{capped}
 
 min_plus : (a b m : ℕ) → min (min a m + min b m) m ≡ min (a + b) m
 min_plus a b m = omega arith

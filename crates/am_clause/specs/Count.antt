@@ -1,7 +1,7 @@
 -- How many clauses a formula has, found without building them.
 use Rattle.std.specs.Prelude.{◌≡◌, ◌+◌, ◌*◌, ℕ, List, map, sum}
 use Rattle.std.specs.List.{fold}
-use Rattle.std.proofs.Common.{ap, refl, ◌∙◌}
+use Rattle.std.proofs.Common.{ap, ◌∙◌}
 use Rattle.am_term.specs.declared.term.Atom.{Atom}
 use Rattle.am_term.specs.declared.term.Formula.{Formula}
 use Rattle.am_term.specs.declared.term.Formula.TheOpen.{Formula-F}

@@ -1,5 +1,5 @@
 -- Lists without repetitions: of what is the same, the first stays.
-use Rattle.std.specs.Prelude.{◌≡◌, ◌++◌, Bool, not, List, [], ◌∷◌, if◌then◌else◌}
+use Rattle.std.specs.Prelude.{◌++◌, Bool, not, List, [], ◌∷◌, if◌then◌else◌}
 use Rattle.std.specs.List.{filter, list_any, fold}
 
 module _ {X : Type 0} (same : X → X → Bool) where

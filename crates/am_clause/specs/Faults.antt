@@ -1,5 +1,5 @@
 -- When a formula's clauses are refused.
-use Rattle.std.specs.Prelude.{◌≡◌, ◌<◌, ◌-◌, ◌^◌, ℕ, length, min}
+use Rattle.std.specs.Prelude.{◌≡◌, ◌<◌, ◌-◌, ◌^◌, length, min}
 use Rattle.am_term.specs.declared.term.Formula.{Formula}
 use Rattle.am_clause.specs.declared.fault.ClauseFault.{ClauseFault}
 use Rattle.am_clause.specs.declared.fault.ClauseFault.TheVariants.{TooManyClauses, NoMemory}

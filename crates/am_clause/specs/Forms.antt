@@ -1,7 +1,6 @@
 -- One column of the table of clauses at a time, by the sign that is asked for.
 use Rattle.std.specs.Prelude.{◌≡◌, ◌++◌, ◌-◌, ◌^◌, ℕ, Bool, true, false, not, List, map, min}
 use Rattle.std.specs.List.{flat_map}
-use Rattle.std.proofs.Common.{ap, refl, ◌∙◌}
 use Rattle.am_term.specs.declared.term.Atom.{Atom}
 use Rattle.am_term.specs.declared.term.Formula.{Formula}
 use Rattle.am_term.specs.declared.term.Formula.TheVariants.{Atom as Atomic, Not, And, Or, Implies, Iff}

@@ -1,5 +1,5 @@
 -- What numbering by first occurrence is: words of its laws.
-use Rattle.std.specs.Prelude.{◌≡◌, ◌<◌, ℕ, List, map, Some, IsTrue, slice_get, length}
+use Rattle.std.specs.Prelude.{◌≡◌, ◌<◌, ℕ, List, map, Some, IsTrue, slice_get}
 use Rattle.am_term.specs.declared.id.SortId.{SortId}
 use Rattle.am_clause.specs.declared.clause.Clause.{Clause}
 use Rattle.am_clause.specs.Distinct.{among}

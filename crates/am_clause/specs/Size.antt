@@ -1,5 +1,5 @@
 -- How large a clause is.
-use Rattle.std.specs.Prelude.{◌+◌, ℕ, List, sum_by}
+use Rattle.std.specs.Prelude.{◌+◌, ℕ, sum_by}
 use Rattle.am_term.specs.declared.term.Atom.{Atom}
 use Rattle.am_term.specs.declared.term.Atom.TheVariants.{Rel, Eq}
 use Rattle.am_term.specs.declared.term.Literal.{Literal}

@@ -19,7 +19,7 @@ use Rattle.am_term.specs.declared.term.Formula.TheFolds.{fold-Formula}
 use Rattle.am_term.specs.Fold.{fold-Var, fold-In, fold-App}
 use Rattle.am_term.specs.FoldFormula.{fold-Atom, fold-Not, fold-And, fold-Or, fold-Implies, fold-Iff}
 use Rattle.am_clause.specs.declared.clause.Clause.{Clause}
-use Rattle.am_clause.specs.Distinct.{among, distinct}
+use Rattle.am_clause.specs.Distinct.{distinct}
 
 abbrev pub Variable : Type 0
 Variable = ℕ × SortId

@@ -12,10 +12,10 @@ use std::alloc::Global;
 pub fn merge(alloc: Global, literals: &[Literal]) -> Result<Items<Literal>, NoMemory>
     ensures { IfOk result (λ ls. ls ≡ merged literals.now) }
 {
-    let mut made: Items<Literal> = Items::new(alloc);
-    for literal in literals {
-        if !contains(made.as_slice(), literal) {
-            made.push(copy_literal(alloc, literal)?)?;
+    let mut made = Items::new(alloc);
+    for i in 0..literals.len() {
+        if !contains(&literals[..i], &literals[i]) {
+            made.push(copy_literal(alloc, &literals[i])?)?;
         }
     }
     Ok(made)

@@ -1,8 +1,8 @@
 -- The item that the words of an item's text may spell is that item.
-use Rattle.std.proofs.Common.{◌≡◌, ◌++◌, ◌<◌, ◌≤◌, ◌+◌, ◌^◌, ℕ, suc, Bool, true, false, List, [], ◌∷◌, length, codes, map, refl, sym, ap, ◌∙◌, arith, rules}
-use Rattle.std.specs.List.{flat_map, fold, list_all}
-use Rattle.std.specs.Prelude.{◌&&◌, ◌==◌, not, ℤ, pos, negsuc, nat_le, if◌then◌else◌}
-use Rattle.std.specs.Fmt.{decimal, signed_decimal}
+use Rattle.std.proofs.Common.{◌≡◌, ◌++◌, ◌<◌, ◌≤◌, ◌^◌, ℕ, suc, true, false, List, [], ◌∷◌, length, codes, map, refl, sym, ap, ◌∙◌, arith}
+use Rattle.std.specs.List.{fold, list_all}
+use Rattle.std.specs.Prelude.{◌&&◌, ◌==◌, pos, negsuc, nat_le}
+use Rattle.std.specs.Fmt.{decimal}
 use Rattle.std.specs.Char.{is_ascii_digit}
 use Rattle.std.specs.Str.{bytes_eq}
 use Rattle.std.proofs.lemmas.Grind.{common_steps}
@@ -10,23 +10,22 @@ use Rattle.std.proofs.lemmas.Bool.{and_parts, ltb-true, leb-true, lt-ltb, le-leb
 use Rattle.std.proofs.lemmas.Bool.Decides.{nat_tests}
 use Rattle.std.proofs.lemmas.Fmt.{digits_decimal, digits_value-decimal, decimal_nonempty}
 use Rattle.am_term.specs.Names.{is_fortran_name, is_fortran_byte, is_upper}
-use mathlib.Core.List.{append_assoc, append-nil}
-use Rattle.am_fortran.specs.Text.{line, with_list, type_text, extents_text, declaration_text, statement_text, head_text, operand_text}
-use Rattle.am_fortran.specs.Well.{is_between, is_type, is_declaration, is_statement, fits_statement, is_operand, fits_operand}
-use Rattle.am_fortran.specs.Words.{Scan, step, start, in_text, in_words, with_word, words}
+use mathlib.Core.List.{append_assoc}
+use Rattle.am_fortran.specs.Text.{line, declaration_text, statement_text, head_text, operand_text}
+use Rattle.am_fortran.specs.Well.{is_between, is_type, is_statement, fits_statement, is_operand, fits_operand}
+use Rattle.am_fortran.specs.Words.{step, start, in_words, with_word, words}
 use Rattle.am_fortran.specs.Guess.{read_on, number_of, integer_of, operand_of, assigned, integer_type_of, double_of, declared, guessed}
 use Rattle.am_fortran.specs.Items.{is_item, item_text}
 use Rattle.am_fortran.specs.declared.item.Item.{Item}
 use Rattle.am_fortran.specs.declared.item.Item.TheVariants.{Head, Declaration, Executable, End}
 use Rattle.am_fortran.specs.declared.statement.FortranType.{FortranType}
 use Rattle.am_fortran.specs.declared.statement.FortranType.TheVariants.{Double, Integer, Logical, Char, CharAny, DoubleVec, DoubleMat, IntegerVec}
-use Rattle.am_fortran.specs.declared.statement.Decl.{Decl}
 use Rattle.am_fortran.specs.declared.statement.Operand.{Operand}
 use Rattle.am_fortran.specs.declared.statement.Operand.TheVariants as operand
 use Rattle.am_fortran.specs.declared.statement.Statement.{Statement}
 use Rattle.am_fortran.specs.declared.statement.Statement.TheVariants.{Call, Assign, Apply}
 use Rattle.am_fortran.proofs.Digits.{own}
-use Rattle.am_fortran.proofs.Runs.{between, in_word, run_both, IsWord, IsGap, Words}
+use Rattle.am_fortran.proofs.Runs.{between, in_word, run_both, IsWord, IsGap}
 use Rattle.am_fortran.proofs.WordsOf.{name_word, decimal_word, operand_word, operand_is_word, operands_are_words, names_are_words, run_line, with_list_words}
 
 -- numbers

@@ -1,10 +1,9 @@
 -- The text of a unit keeps the columns of the fixed form.
-use Rattle.std.proofs.Common.{◌≡◌, ◌++◌, ◌<◌, ◌≤◌, ◌+◌, ◌-◌, ℕ, zero, suc, Bool, true, false, List, [], ◌∷◌, length, length-append, get_or, map, Some, refl, sym, ap, subst, ◌∙◌, arith, rules}
+use Rattle.std.proofs.Common.{◌≡◌, ◌++◌, ◌≤◌, ◌+◌, ℕ, zero, suc, true, List, [], ◌∷◌, length, get_or, map, Some, refl, sym, subst, arith}
 use Rattle.std.specs.Prelude.{slice_get}
 use Rattle.std.specs.List.{flat_map, list_all, All, AllByRecursion}
 use Rattle.std.proofs.lemmas.Bool.{and_parts}
 use Rattle.std.proofs.lemmas.List.{length-map}
-use mathlib.Core.List.{append_assoc, append-nil}
 use Rattle.am_fortran.specs.Columns.{KeepsColumns, FitsCard}
 use Rattle.am_fortran.specs.Items.{is_item, item_text}
 use Rattle.am_fortran.specs.Lines.{Line, lines, groups}

@@ -1,9 +1,8 @@
 -- A draft and its items.
-use Rattle.std.proofs.Common.{◌≡◌, ◌++◌, ◌<◌, ◌≤◌, ◌+◌, ℕ, suc, Bool, true, false, List, [], ◌∷◌, length, map, refl, sym, ap, ◌∙◌, arith, rules}
-use Rattle.std.specs.List.{flat_map, list_all}
+use Rattle.std.proofs.Common.{◌≡◌, ◌++◌, ◌≤◌, ℕ, Bool, true, false, List, [], ◌∷◌, length, map, refl, sym, ap, ◌∙◌}
+use Rattle.std.specs.List.{list_all}
 use Rattle.std.specs.Str.{bytes_eq}
-use Rattle.std.specs.Prelude.{◌&&◌, ◌==◌, not, nat_le, if◌then◌else◌}
-use Rattle.std.proofs.lemmas.Grind.{common_steps}
+use Rattle.std.specs.Prelude.{◌&&◌, nat_le, if◌then◌else◌}
 use Rattle.std.proofs.lemmas.Bool.{and_parts, leb-true, eq-eqb, and_from, both_ways}
 use Rattle.std.proofs.lemmas.List.{map_push}
 use Rattle.std.proofs.lemmas.List.Folds.{list_all-append, list_all-map}
@@ -11,7 +10,7 @@ use mathlib.Core.List.{append_assoc, append-nil}
 use Rattle.am_term.specs.Names.{is_fortran_name}
 use Rattle.am_fortran.specs.Well.{is_between, is_declaration, is_statement, fits_statement}
 use Rattle.am_fortran.specs.Items.{is_item, item_text}
-use Rattle.am_fortran.specs.Drafts.{draft_items, is_none, is_out, SpellsNone}
+use Rattle.am_fortran.specs.Drafts.{draft_items, SpellsNone}
 use Rattle.am_fortran.specs.Words.{words}
 use Rattle.am_fortran.specs.Guess.{guessed}
 use Rattle.am_fortran.specs.declared.draft.Draft.{Draft}
@@ -28,14 +27,14 @@ pub declaration_items : (n : List ℕ) (dd : List (List ℕ)) (es fs : List Decl
 unfolding draft_items
 declaration_items n dd es fs ss e d q h k = let front = map Declaration es in
     rw (q, h, k, map_push Declaration es d)
-      (ap (λ (z : List Item). Head n dd ∷ z) (append-nil (front ++ Declaration d ∷ [] ++ []) ∙ append-nil (front ++ Declaration d ∷ []) ∙ sym (ap (λ (z : List Item). z ++ Declaration d ∷ []) (append-nil (front ++ []) ∙ append-nil front))))
+    (ap (λ (z : List Item). Head n dd ∷ z) (append-nil (front ++ Declaration d ∷ [] ++ []) ∙ append-nil (front ++ Declaration d ∷ []) ∙ sym (ap (λ (z : List Item). z ++ Declaration d ∷ []) (append-nil (front ++ []) ∙ append-nil front))))
 
 pub executable_items : (n : List ℕ) (dd : List (List ℕ)) (es : List Decl) (ss ts : List Statement) (e : Bool) (s : Statement) → ts ≡ ss ++ s ∷ [] → e ≡ false → draft_items (one n dd es ts e) ≡ draft_items (one n dd es ss e) ++ Executable s ∷ []
 unfolding draft_items
 executable_items n dd es ss ts e s q h = let front = map Declaration es in
     let middle = map Executable ss in
     rw (q, h, map_push Executable ss s)
-      (ap (λ (z : List Item). Head n dd ∷ z) (append-nil (front ++ (middle ++ Executable s ∷ [])) ∙ sym (append_assoc front middle (Executable s ∷ [])) ∙ ap (λ (z : List Item). z ++ Executable s ∷ []) (sym (append-nil (front ++ middle)))))
+    (ap (λ (z : List Item). Head n dd ∷ z) (append-nil (front ++ (middle ++ Executable s ∷ [])) ∙ sym (append_assoc front middle (Executable s ∷ [])) ∙ ap (λ (z : List Item). z ++ Executable s ∷ []) (sym (append-nil (front ++ middle)))))
 
 pub end_items : (n : List ℕ) (dd : List (List ℕ)) (es : List Decl) (ss : List Statement) (e : Bool) → e ≡ false → draft_items (one n dd es ss true) ≡ draft_items (one n dd es ss e) ++ End ∷ []
 unfolding draft_items
@@ -78,7 +77,7 @@ draft_kept d h =
       few_dummies = leb-true (length d.dummies) 18 k.1;
       declared = sym (list_all-map is_item Declaration d.declarations) ∙ e.1;
       stated = s.0;
-      fits = s.1
+      fits = s.1;
     }
 
 bytes_same : (xs : List ℕ) → bytes_eq xs xs ≡ true

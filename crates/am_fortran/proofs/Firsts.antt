@@ -1,14 +1,13 @@
 -- Where the first fault of a text stands, by the items that were read before it.
-use Rattle.std.proofs.Common.{◌≡◌, ◌++◌, ◌<◌, ◌≤◌, ◌+◌, ◌-◌, ℕ, zero, suc, Bool, true, false, List, [], ◌∷◌, length, length-append, take, drop, get_or, map, refl, sym, ap, subst, ◌∙◌, arith, rules, inl, inr}
-use Rattle.std.specs.Prelude.{◌&&◌, ◌||◌, ◌⊎◌, not, if◌then◌else◌}
-use Rattle.std.specs.List.{flat_map, list_all, list_any, sum_by, AllByRecursion}
+use Rattle.std.proofs.Common.{◌≡◌, ◌++◌, ◌<◌, ◌≤◌, ◌+◌, ℕ, zero, suc, Bool, true, false, List, [], ◌∷◌, length, length-append, take, get_or, map, refl, sym, ap, subst, ◌∙◌, arith, inl, inr}
+use Rattle.std.specs.Prelude.{◌||◌, not, if◌then◌else◌}
+use Rattle.std.specs.List.{list_all, list_any, sum_by, AllByRecursion}
 use Rattle.std.proofs.lemmas.Bool.{and_parts, or_cases, both_ways, cases_order, not-true}
 use Rattle.std.proofs.lemmas.List.{length-map}
 use Rattle.std.proofs.lemmas.List.Folds.{list_any-append}
-use mathlib.Core.List.{append_assoc, append-nil}
 use Rattle.am_fortran.specs.Items.{is_item, item_text, Spells, is_end, is_past_declarations}
-use Rattle.am_fortran.specs.Lines.{Line, lines, groups, group_text, is_whole, first_line}
-use Rattle.am_fortran.specs.Drafts.{draft_items, is_none, is_head, is_out, is_ended, SpellsNone}
+use Rattle.am_fortran.specs.Lines.{Line, group_text, is_whole, first_line}
+use Rattle.am_fortran.specs.Drafts.{draft_items, is_none, is_head, is_out, SpellsNone}
 use Rattle.am_fortran.specs.Faults.{group_at, StandsBefore, IsMisplaced, Holds, rank, IsFirst}
 use Rattle.am_fortran.specs.declared.draft.Draft.{Draft}
 use Rattle.am_fortran.specs.declared.fault.UnitKind.{UnitKind}
@@ -18,9 +17,9 @@ use Rattle.am_fortran.specs.declared.item.Item.TheVariants.{Head, Declaration, E
 use Rattle.am_fortran.specs.declared.statement.Statement.{Statement}
 use Rattle.am_fortran.proofs.Again.{item_injective}
 use Rattle.am_fortran.proofs.Cards.{all_append}
-use Rattle.am_fortran.proofs.Grouping.{whole, text_lines, whole_lines}
+use Rattle.am_fortran.proofs.Grouping.{whole, text_lines}
 use Rattle.am_fortran.proofs.Parts.{item_group, statement_lines}
-use Rattle.am_fortran.proofs.Rows.{IsStatement, item_statement}
+use Rattle.am_fortran.proofs.Rows.{item_statement}
 
 -- the items' groups by their places
 
@@ -125,18 +124,20 @@ draft_sorted d =
     let ds = map Declaration d.declarations in
     let ss = map Executable d.statements in
     let inner : Sorted (ds ++ ss) = sorted_append ds ss
-        (sorted_map Declaration (λ x y. before (Declaration x) (Declaration y) 1 1 refl refl (omega arith) (omega arith) (omega arith)) d.declarations)
-        (sorted_map Executable (λ x y. before (Executable x) (Executable y) 2 2 refl refl (omega arith) (omega arith) (omega arith)) d.statements)
-        (all_map (λ x. AllByRecursion (Before x) ss) Declaration (λ x. all_map (Before (Declaration x)) Executable (λ y. before (Declaration x) (Executable y) 1 2 refl refl (omega arith) (omega arith) (omega arith)) d.statements) d.declarations) in
+    (sorted_map Declaration (λ x y. before (Declaration x) (Declaration y) 1 1 refl refl (omega arith) (omega arith) (omega arith)) d.declarations)
+    (sorted_map Executable (λ x y. before (Executable x) (Executable y) 2 2 refl refl (omega arith) (omega arith) (omega arith)) d.statements)
+    (all_map (λ x. AllByRecursion (Before x) ss) Declaration (λ x. all_map (Before (Declaration x)) Executable (λ y. before (Declaration x) (Executable y) 1 2 refl refl (omega arith) (omega arith) (omega arith)) d.statements) d.declarations) in
     let outer : Sorted ((ds ++ ss) ++ ending d.ended) = sorted_append (ds ++ ss) (ending d.ended) inner (sorted_ending d.ended)
-        (all_append (λ x. AllByRecursion (Before x) (ending d.ended)) ds ss
-          (all_map (λ x. AllByRecursion (Before x) (ending d.ended)) Declaration (λ x. all_ending (Before (Declaration x)) d.ended (before (Declaration x) End 1 3 refl refl (omega arith) (omega arith) (omega arith))) d.declarations)
-          (all_map (λ x. AllByRecursion (Before x) (ending d.ended)) Executable (λ x. all_ending (Before (Executable x)) d.ended (before (Executable x) End 2 3 refl refl (omega arith) (omega arith) (omega arith))) d.statements)) in
-    (all_append (Before head) (ds ++ ss) (ending d.ended)
-      (all_append (Before head) ds ss
-        (all_map (Before head) Declaration (λ x. before head (Declaration x) 0 1 refl refl (omega arith) (omega arith) (omega arith)) d.declarations)
-        (all_map (Before head) Executable (λ x. before head (Executable x) 0 2 refl refl (omega arith) (omega arith) (omega arith)) d.statements))
-      (all_ending (Before head) d.ended (before head End 0 3 refl refl (omega arith) (omega arith) (omega arith))), outer)
+    (all_append (λ x. AllByRecursion (Before x) (ending d.ended)) ds ss
+    (all_map (λ x. AllByRecursion (Before x) (ending d.ended)) Declaration (λ x. all_ending (Before (Declaration x)) d.ended (before (Declaration x) End 1 3 refl refl (omega arith) (omega arith) (omega arith))) d.declarations)
+    (all_map (λ x. AllByRecursion (Before x) (ending d.ended)) Executable (λ x. all_ending (Before (Executable x)) d.ended (before (Executable x) End 2 3 refl refl (omega arith) (omega arith) (omega arith))) d.statements)) in (
+      all_append (Before head) (ds ++ ss) (ending d.ended)
+          (all_append (Before head) ds ss
+          (all_map (Before head) Declaration (λ x. before head (Declaration x) 0 1 refl refl (omega arith) (omega arith) (omega arith)) d.declarations)
+          (all_map (Before head) Executable (λ x. before head (Executable x) 0 2 refl refl (omega arith) (omega arith) (omega arith)) d.statements))
+          (all_ending (Before head) d.ended (before head End 0 3 refl refl (omega arith) (omega arith) (omega arith))),
+      outer,
+    )
 
 -- the head stands first, the rest in order
 pub record InOrder (is : List Item) : Type 0 where
@@ -213,7 +214,7 @@ pub nothing_among : (is : List Item) (more : List (List Line)) (j : ℕ) (other 
 nothing_among is more j Cut k o l h = elim h [
   | inl c ↦ both_ways (is_whole (group_at (map item_group is ++ more) j)) c.1 (ap is_whole (at_front is more j l) ∙ item_whole (at is j) (kept_at is j k l))
   | inr c ↦ omega (arith, c.0, size_of is more, l)
-  ]
+]
 nothing_among is more j BadStatement k o l h = h.1 (at is j) (spells_it (group_at (map item_group is ++ more) j) (at is j) (kept_at is j k l) (at_front is more j l))
 nothing_among is more j Order k o l h =
     let same = spelled_is (group_at (map item_group is ++ more) j) (at is j) h.1 (kept_at is j k l) (at_front is more j l) h.2 in
@@ -229,8 +230,8 @@ first_behind is more kind k o h r = record {
   first = λ j other g. elim (cases_order j (length is)) [
     | inl e ↦ inr (sym e, r other (subst (λ (z : ℕ). Holds (map item_group is ++ more) z other) e g))
     | inr c ↦ elim c [ inl lt ↦ absurd (nothing_among is more j other k o lt g) | inr gt ↦ inl gt ]
-    ]
-  }
+  ];
+}
 
 at_least_one : (other : UnitKind) → rank Cut ≤ rank other
 at_least_one Cut = omega arith
@@ -248,7 +249,7 @@ no_cut : (is : List Item) (g : List Line) (more : List (List Line)) → is_whole
 no_cut is g more w h = elim h [
   | inl c ↦ both_ways (is_whole (group_at (map item_group is ++ g ∷ more) (length is))) c.1 (ap is_whole (at_end is g more) ∙ w)
   | inr c ↦ omega (arith, c.0, here_size is g more)
-  ]
+]
 
 bad_rank : (is : List Item) (g : List Line) (more : List (List Line)) → is_whole g ≡ true → (other : UnitKind) → Holds (map item_group is ++ g ∷ more) (length is) other → rank BadStatement ≤ rank other
 bad_rank is g more w Cut h = absurd (no_cut is g more w h)
@@ -293,7 +294,7 @@ any_place sort [] h = absurd cc
 any_place sort (i ∷ is) h = elim (or_cases (sort i) (list_any sort is) h) [
   | inl p ↦ (0, omega arith, p)
   | inr q ↦ let r = any_place sort is q in (suc r.0, omega (arith, r.1), r.2)
-  ]
+]
 
 pub stands : (is : List Item) (more : List (List Line)) (sort : Item → Bool) → list_all is_item is ≡ true → list_any sort is ≡ true → StandsBefore (map item_group is ++ more) (length is) sort
 stands is more sort k h = let r = any_place sort is h in record {
@@ -301,8 +302,8 @@ stands is more sort k h = let r = any_place sort is h in record {
   item = at is r.0;
   before = r.1;
   spelled = spells_it (group_at (map item_group is ++ more) r.0) (at is r.0) (kept_at is r.0 k r.1) (at_front is more r.0 r.1);
-  of_sort = r.2
-  }
+  of_sort = r.2;
+}
 
 any_map : {X : Type 0} (sort : Item → Bool) (f : X → Item) → ((x : X) → sort (f x) ≡ false) → (xs : List X) → list_any sort (map f xs) ≡ false
 any_map sort f h [] = refl
@@ -350,7 +351,7 @@ out_misplaced d more (Head n ds) k h = some_items d
 out_misplaced d more (Declaration x) k h = elim (or_cases d.ended (not (is_none d.statements)) h) [
   | inl e ↦ inr (stands (draft_items d) more is_past_declarations k (ended_any is_past_declarations d refl e))
   | inr n ↦ inr (stands (draft_items d) more is_past_declarations k (past_any d (not-true (is_none d.statements) n)))
-  ]
+]
 out_misplaced d more (Executable s) k h = inr (stands (draft_items d) more is_end k (ended_any is_end d refl h))
 out_misplaced d more End k h = inr (stands (draft_items d) more is_end k (ended_any is_end d refl h))
 

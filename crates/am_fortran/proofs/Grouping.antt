@@ -1,14 +1,14 @@
 -- Lines and groups of a text that is put together from lines.
-use Rattle.std.proofs.Common.{◌≡◌, ◌++◌, ◌<◌, ◌≤◌, ◌+◌, ◌-◌, ℕ, suc, Bool, true, false, List, [], ◌∷◌, length, length-append, length-drop, take, drop, take_all, get_or, inl, inr, codes, map, refl, sym, ap, ◌∙◌, arith, rules}
-use Rattle.std.specs.List.{flat_map, list_all, starts_with}
+use Rattle.std.proofs.Common.{◌≡◌, ◌++◌, ◌<◌, ◌≤◌, ◌+◌, ◌-◌, ℕ, suc, Bool, true, false, List, [], ◌∷◌, length, length-append, length-drop, take, drop, take_all, get_or, inl, inr, codes, refl, sym, ap, ◌∙◌, arith}
+use Rattle.std.specs.List.{list_all, starts_with}
 use Rattle.std.specs.Prelude.{◌&&◌, ◌==◌, not, if◌then◌else◌}
 use Rattle.std.proofs.lemmas.Grind.{common_steps}
 use Rattle.std.proofs.lemmas.Bool.{and_parts, eqb-true, eqb-false, ne_eqb, cases_lt}
 use Rattle.std.proofs.lemmas.List.{take-append-drop, drop_all}
 use Rattle.std.proofs.Math.Seq.{take-append-add}
-use mathlib.Core.List.{append_assoc, append-nil}
+use mathlib.Core.List.{append-nil}
 use Rattle.am_fortran.specs.Drafts.{is_ended, IsLineFront, IsGroupFront}
-use Rattle.am_fortran.specs.Lines.{Line, line_bytes, onto_first, lines, is_continuation, goes_on, onto_group, groups, group_text, is_whole}
+use Rattle.am_fortran.specs.Lines.{Line, onto_first, lines, is_continuation, goes_on, onto_group, groups, group_text, is_whole}
 
 -- a byte inside a line
 abbrev pub is_inside : ℕ → Bool
@@ -207,7 +207,7 @@ front_ended bytes i l e h =
       some = omega arith;
       within = omega arith;
       one = rw t (one_ended (take i bytes) h);
-      ended = λ _. rw t (ended_snoc (take i bytes))
+      ended = λ _. rw t (ended_snoc (take i bytes));
     }
 
 pub front_all : (bytes : List ℕ) → 0 < length bytes → list_all is_inside bytes ≡ true → IsLineFront bytes (length bytes)
@@ -217,7 +217,7 @@ front_all bytes s h =
       some = s;
       within = omega arith;
       one = rw t (one_part bytes s h);
-      ended = λ l. absurd (omega (arith, l))
+      ended = λ l. absurd (omega (arith, l));
     }
 
 -- these bytes are the first line and continuation lines behind it
@@ -236,8 +236,8 @@ front_line bytes end f = record {
   one = one_is_group (lines (take end bytes)) f.one;
   counted = sym f.one;
   few = omega (arith, f.some);
-  ended = f.ended
-  }
+  ended = f.ended;
+}
 
 pub ruleset first_laws = (common_steps, goes_on_lines)
 
@@ -267,7 +267,7 @@ unfolding lines
 two_parts t r f = elim (cases_lt r (length t)) [
   | inl lt ↦ ap lines (sym (take-append-drop r t)) ∙ lines_append (take r t) (drop r t) (f lt)
   | inr le ↦ rw (take_all r t le, drop_all r t le) (sym (append-nil (lines t)))
-  ]
+]
 
 pub front_group : (bytes : List ℕ) (end count : ℕ) → IsFront bytes end count → goes_on (lines (drop end bytes)) ≡ false → IsGroupFront bytes end count
 front_group bytes end count f g = record {
@@ -275,8 +275,8 @@ front_group bytes end count f g = record {
   within = f.within;
   group = ap groups (two_parts bytes end f.ended) ∙ group_first (lines (take end bytes)) (lines (drop end bytes)) f.one g;
   counted = f.counted;
-  few = f.few
-  }
+  few = f.few;
+}
 
 pub front_more : (bytes : List ℕ) (end count r : ℕ) → IsFront bytes end count → goes_on (lines (drop end bytes)) ≡ true → IsLineFront (drop end bytes) r → IsFront bytes (end + r) (count + 1)
 front_more bytes end count r f g l =
@@ -293,5 +293,5 @@ front_more bytes end count r f g l =
       one = rw both (group_more (lines (take end bytes)) (lines (take r (drop end bytes))) (lines (drop r (drop end bytes))) f.one l.one next);
       counted = rw (both, length-append (lines (take end bytes)) (lines (take r (drop end bytes))), l.one) (ap (λ (k : ℕ). k + 1) f.counted);
       few = omega (arith, f.few, l.some);
-      ended = λ lt. rw front (ended_append (take end bytes) (take r (drop end bytes)) (omega (arith, l.some)) ∙ l.ended (omega arith))
+      ended = λ lt. rw front (ended_append (take end bytes) (take r (drop end bytes)) (omega (arith, l.some)) ∙ l.ended (omega arith));
     }

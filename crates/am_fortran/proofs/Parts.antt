@@ -1,18 +1,17 @@
 -- The groups of a unit's text are the texts of its items.
-use Rattle.std.proofs.Common.{◌≡◌, ◌++◌, ◌<◌, ◌≤◌, ◌+◌, ◌-◌, ℕ, suc, Bool, true, false, List, [], ◌∷◌, length, take, drop, get_or, codes, map, refl, sym, ap, subst, ◌∙◌, arith, rules}
+use Rattle.std.proofs.Common.{◌≡◌, ◌++◌, ◌≤◌, ℕ, Bool, true, false, List, [], ◌∷◌, length, codes, map, refl, sym, ap, subst, ◌∙◌}
 use Rattle.std.specs.List.{flat_map, list_all}
-use Rattle.std.specs.Prelude.{◌&&◌, ◌==◌, not, if◌then◌else◌}
-use Rattle.std.proofs.lemmas.Bool.{and_parts, le-leb, leb-true}
+use Rattle.std.specs.Prelude.{◌&&◌}
+use Rattle.std.proofs.lemmas.Bool.{and_parts, le-leb}
 use Rattle.std.proofs.lemmas.List.Concat.{flat_map-append}
 use Rattle.std.proofs.lemmas.List.Folds.{list_all-append, list_all-map, flat_map-map}
-use Rattle.std.proofs.lemmas.List.{map-append}
 use mathlib.Core.List.{append_assoc, append-nil}
 use Rattle.std.proofs.Props.{props}
 use Rattle.am_term.specs.Names.{is_fortran_name}
 use Rattle.am_fortran.specs.Text.{line, declaration_text, statement_text, head_text, unit_text}
-use Rattle.am_fortran.specs.Well.{is_between, is_declaration, is_statement, fits_statement}
+use Rattle.am_fortran.specs.Well.{is_declaration, is_statement, fits_statement}
 use Rattle.am_fortran.specs.Items.{is_item, item_text}
-use Rattle.am_fortran.specs.Lines.{Line, line_bytes, lines, is_continuation, goes_on, groups, group_text}
+use Rattle.am_fortran.specs.Lines.{Line, lines, goes_on, groups, group_text}
 use Rattle.am_fortran.specs.Units.{IsUnit, unit_items}
 use Rattle.am_fortran.specs.declared.item.Item.{Item}
 use Rattle.am_fortran.specs.declared.item.Item.TheVariants.{Head, Declaration, Executable, End}
@@ -20,8 +19,8 @@ use Rattle.am_fortran.specs.declared.statement.Decl.{Decl}
 use Rattle.am_fortran.specs.declared.statement.Statement.{Statement}
 use Rattle.am_fortran.specs.declared.unit.Unit.{Unit as Subroutine}
 use Rattle.am_fortran.proofs.Again.{item_injective}
-use Rattle.am_fortran.proofs.Grouping.{is_inside, whole, lines_over, is_one_group, group_first, text_lines}
-use Rattle.am_fortran.proofs.Rows.{Row, Rows, made, IsStatement, item_statement}
+use Rattle.am_fortran.proofs.Grouping.{whole, lines_over, group_first, text_lines}
+use Rattle.am_fortran.proofs.Rows.{Rows, made, IsStatement, item_statement}
 
 lines_made : (ls : List (List ℕ)) → Rows ls → (rest : List ℕ) → lines (made ls ++ rest) ≡ map whole ls ++ lines rest
 lines_made [] r rest = refl

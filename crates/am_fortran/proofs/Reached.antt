@@ -1,17 +1,15 @@
 -- How the reading of a text goes on, and how it fails.
-use Rattle.std.proofs.Common.{◌≡◌, ◌≢◌, ◌++◌, ◌<◌, ◌≤◌, ◌+◌, ◌-◌, ℕ, Bool, true, false, List, [], ◌∷◌, length, length-append, length-drop, take, drop, map, refl, sym, ap, subst, ◌∙◌, arith, rules, inl, inr}
-use Rattle.std.specs.Prelude.{◌&&◌, ◌⊎◌, if◌then◌else◌}
+use Rattle.std.proofs.Common.{◌≡◌, ◌++◌, ◌<◌, ◌≤◌, ◌+◌, ◌-◌, ℕ, true, false, List, [], ◌∷◌, length, length-drop, take, drop, refl, sym, ap, subst, ◌∙◌, arith, inl, inr}
 use Rattle.std.specs.List.{flat_map, list_all, list_any, sum_by}
-use Rattle.std.proofs.lemmas.Bool.{and_parts}
 use Rattle.std.proofs.lemmas.List.{drop-drop, drop_all, take_all, map-append}
 use Rattle.std.proofs.lemmas.List.Concat.{flat_map-append}
 use Rattle.std.proofs.lemmas.List.Folds.{list_all-append}
 use Rattle.std.proofs.lemmas.List.Sums.{sum_by-append}
 use mathlib.Core.List.{append_assoc, append-nil}
-use Rattle.am_fortran.specs.Items.{is_item, item_text, Spells, is_end}
-use Rattle.am_fortran.specs.Lines.{Line, lines, groups, group_text, is_whole, first_line}
-use Rattle.am_fortran.specs.Drafts.{draft_items, is_head, is_out, is_ended, SpellsNone, IsGroupFront, IsFound, IsCut, IsBad, IsUnread, Unread, items_groups, Reads, Fails}
-use Rattle.am_fortran.specs.Faults.{group_at, StandsBefore, IsMisplaced, Holds, rank, IsFirst, IsFault}
+use Rattle.am_fortran.specs.Items.{is_item, item_text, is_end}
+use Rattle.am_fortran.specs.Lines.{Line, lines, groups, is_whole, first_line}
+use Rattle.am_fortran.specs.Drafts.{draft_items, SpellsNone, IsFound, IsUnread, Unread, items_groups, Reads, Fails}
+use Rattle.am_fortran.specs.Faults.{StandsBefore, IsMisplaced, Holds, rank, IsFirst, IsFault}
 use Rattle.am_fortran.specs.Text.{unit_text}
 use Rattle.am_fortran.specs.Units.{IsUnit, unit_items}
 use Rattle.am_fortran.specs.declared.draft.Draft.{Draft}
@@ -22,11 +20,10 @@ use Rattle.am_fortran.specs.declared.fault.ReadError.TheVariants.{Memory, Fault}
 use Rattle.am_fortran.specs.declared.fault.UnitKind.{UnitKind}
 use Rattle.am_fortran.specs.declared.fault.UnitKind.TheVariants.{Cut, BadStatement, Order, NoMemory}
 use Rattle.am_fortran.specs.declared.item.Item.{Item}
-use Rattle.am_fortran.specs.declared.item.Item.TheVariants.{Head, Declaration, Executable, End}
 use Rattle.am_fortran.specs.declared.unit.Unit.{Unit as Subroutine}
-use Rattle.am_fortran.proofs.Firsts.{InOrder, draft_order, none_order, nothing_among, cut_here, bad_here, order_here, end_here, out_misplaced, first_misplaced, not_ended, line_of, size_of, stands, ended_any, item_whole}
+use Rattle.am_fortran.proofs.Firsts.{InOrder, draft_order, none_order, nothing_among, cut_here, bad_here, order_here, end_here, not_ended, line_of, size_of, stands, ended_any, item_whole}
 use Rattle.am_fortran.proofs.Grouping.{text_lines, whole_lines, take_two}
-use Rattle.am_fortran.proofs.Parts.{item_group, unit_groups, unit_items_well, unit_items_text, unit_injective}
+use Rattle.am_fortran.proofs.Parts.{item_group, unit_groups, unit_items_well, unit_items_text}
 
 -- the text is read up to a rest: these items stand before it
 pub record Ready (bytes rest : List ℕ) (is : List Item) (line : ℕ) : Type 0 where
@@ -48,7 +45,7 @@ fault_from bytes rest is line kind more r g f =
     record {
       place = length is;
       at = subst (λ (gs : List (List Line)). IsFirst gs (length is) kind) (sym e) f;
-      begins = r.begins ∙ sym (line_of is more) ∙ ap (λ (gs : List (List Line)). first_line gs (length is)) (sym e)
+      begins = r.begins ∙ sym (line_of is more) ∙ ap (λ (gs : List (List Line)). first_line gs (length is)) (sym e);
     }
 
 unread_kind : (bytes rest : List ℕ) (is : List Item) (line : ℕ) (kind : UnitKind) → Ready bytes rest is line → IsUnread rest kind → IsFault bytes line kind
@@ -56,7 +53,7 @@ unread_kind bytes rest is line Cut r u = fault_from bytes rest is line Cut _ r u
     (cut_here is (lines (take u.end rest)) (groups (lines (drop u.end rest))) r.kept r.order (whole_lines (take u.end rest) ∙ u.cut))
 unread_kind bytes rest is line BadStatement r u = fault_from bytes rest is line BadStatement _ r u.front.group
     (bad_here is (lines (take u.end rest)) (groups (lines (drop u.end rest))) r.kept r.order (whole_lines (take u.end rest) ∙ u.ended)
-      (subst SpellsNone (sym (text_lines (take u.end rest))) u.none))
+    (subst SpellsNone (sym (text_lines (take u.end rest))) u.none))
 unread_kind bytes rest is line Order r u = absurd u
 unread_kind bytes rest is line NoMemory r u = absurd u
 
@@ -71,16 +68,16 @@ item_ended i k = item_whole i k
 pub order_fails : (bytes rest : List ℕ) (is : List Item) (line : ℕ) (f : Found) → Ready bytes rest is line → IsFound rest f → IsMisplaced (items_groups is ++ lines (take f.end rest) ∷ groups (lines (drop f.end rest))) (length is) f.item → IsFault bytes line Order
 order_fails bytes rest is line f r u m = fault_from bytes rest is line Order _ r u.front.group
     (order_here is (lines (take f.end rest)) (groups (lines (drop f.end rest))) f.item r.kept r.order
-      (ap (λ (t : List ℕ). is_whole (lines t)) u.spelled ∙ item_ended f.item u.kept)
-      (record { exists = u.kept; text = text_lines (take f.end rest) ∙ u.spelled })
-      m)
+    (ap (λ (t : List ℕ). is_whole (lines t)) u.spelled ∙ item_ended f.item u.kept)
+    (record { exists = u.kept; text = text_lines (take f.end rest) ∙ u.spelled })
+    m)
 
 pub end_fails : (bytes : List ℕ) (p : Progress) → Reads bytes p → (p.at < length bytes → ⊥) → p.draft.ended ≡ false → IsFault bytes p.line Cut
 unfolding lines groups
 end_fails bytes p r n e =
     let rest : drop p.at bytes ≡ [] = drop_all p.at bytes (omega (arith, n)) in
     fault_from bytes (drop p.at bytes) (draft_items p.draft) p.line Cut [] (ready_reads bytes p r) (ap (λ (t : List ℕ). groups (lines t)) rest)
-      (end_here (draft_items p.draft) r.kept (draft_order p.draft) (not_ended p.draft e))
+    (end_here (draft_items p.draft) r.kept (draft_order p.draft) (not_ended p.draft e))
 
 pub empty_fails : (bytes : List ℕ) → length bytes ≡ 0 → IsFault bytes 1 Cut
 unfolding lines groups
@@ -99,8 +96,8 @@ started bytes f d u e = record {
   kept = rw (e, u.kept) refl;
   found = rw e (u.front.group ∙ ap (λ (t : List ℕ). lines t ∷ groups (lines (drop f.end bytes))) u.spelled);
   begins = rw e (one_count f.lines (length (lines (item_text f.item))) (u.front.counted ∙ ap (λ (t : List ℕ). length (lines t)) u.spelled));
-  low = omega (arith, u.front.few)
-  }
+  low = omega (arith, u.front.few);
+}
 
 pub reached : (bytes : List ℕ) (p : Progress) (f : Found) (d : Draft) → Reads bytes p → IsFound (drop p.at bytes) f → draft_items d ≡ draft_items p.draft ++ f.item ∷ [] → Reads bytes (record { draft = d; at = p.at + f.end; line = p.line + f.lines })
 reached bytes p f d r u e =
@@ -112,13 +109,13 @@ reached bytes p f d r u e =
     record {
       within = omega (arith, u.front.within, size, r.within);
       text = rw e (take_two bytes p.at f.end r.within ∙ ap (λ (z : List ℕ). z ++ take f.end rest) r.text
-        ∙ ap (λ (z : List ℕ). flat_map item_text is ++ z) (u.spelled ∙ sym (append-nil (item_text f.item)))
-        ∙ sym (flat_map-append item_text is (f.item ∷ [])));
+          ∙ ap (λ (z : List ℕ). flat_map item_text is ++ z) (u.spelled ∙ sym (append-nil (item_text f.item)))
+          ∙ sym (flat_map-append item_text is (f.item ∷ [])));
       kept = rw (e, list_all-append is_item is (f.item ∷ []), r.kept, u.kept) refl;
       found = rw (e, new) (r.found ∙ ap (λ (z : List (List Line)). items_groups is ++ z) (u.front.group ∙ ap (λ (t : List ℕ). lines t ∷ groups (lines (drop f.end rest))) u.spelled ∙ ap (λ (t : List ℕ). lines (item_text f.item) ∷ groups (lines t)) (drop-drop f.end p.at bytes))
-        ∙ sym (append_assoc (items_groups is) (lines (item_text f.item) ∷ []) (groups (lines (drop (p.at + f.end) bytes)))));
+          ∙ sym (append_assoc (items_groups is) (lines (item_text f.item) ∷ []) (groups (lines (drop (p.at + f.end) bytes)))));
       begins = rw (e, new, sum_by-append length (items_groups is) (lines (item_text f.item) ∷ [])) (omega (arith, r.begins, count));
-      low = omega (arith, r.low, u.front.few)
+      low = omega (arith, r.low, u.front.few);
     }
 
 -- a unit whose items are all of the text's
@@ -140,7 +137,7 @@ no_kind : (is : List Item) (k : ℕ) (kind : UnitKind) → list_all is_item is �
 no_kind is k Cut w o a h = elim h [
   | inl c ↦ nothing_among is [] k Cut w o (omega (arith, c.0, size_of is [])) (inl c)
   | inr c ↦ c.1 (subst (λ (z : ℕ). StandsBefore (items_groups is ++ []) z is_end) (omega (arith, c.0, size_of is [])) (stands is [] is_end w a))
-  ]
+]
 no_kind is k BadStatement w o a h = nothing_among is [] k BadStatement w o (omega (arith, h.0, size_of is [])) h
 no_kind is k Order w o a h = nothing_among is [] k Order w o (omega (arith, h.0, size_of is [])) h
 no_kind is k NoMemory w o a h = h
@@ -150,7 +147,7 @@ unfolding draft_of
 no_fault u h bytes e line kind f =
     let gs : groups (lines bytes) ≡ items_groups (unit_items u) ++ [] = ap (λ (t : List ℕ). groups (lines t)) e ∙ unit_groups u h ∙ sym (append-nil (items_groups (unit_items u))) in
     no_kind (unit_items u) f.place kind (unit_items_well u h) (subst InOrder (items_of_unit u) (draft_order (draft_of u))) (ap (list_any is_end) (sym (items_of_unit u)) ∙ ended_any is_end (draft_of u) refl refl)
-      (subst (λ (z : List (List Line)). Holds z f.place kind) gs f.at.holds)
+    (subst (λ (z : List (List Line)). Holds z f.place kind) gs f.at.holds)
 
 -- there is one first fault
 
@@ -176,7 +173,7 @@ pub one_first : (gs : List (List Line)) (p q : ℕ) (k l : UnitKind) → IsFirst
 one_first gs p q k l f g = elim (f.first q l g.holds) [
   | inl lt ↦ elim (g.first p k f.holds) [ inl gt ↦ absurd (omega arith) | inr e ↦ absurd (omega (arith, e.0)) ]
   | inr d ↦ elim (g.first p k f.holds) [ inl gt ↦ absurd (omega (arith, d.0)) | inr e ↦ (d.0, same_rank k l d.1 e.1) ]
-  ]
+]
 
 pub one_fault : (bytes : List ℕ) (m n : ℕ) (k l : UnitKind) → IsFault bytes m k → IsFault bytes n l → (m ≡ n) × (k ≡ l)
 one_fault bytes m n k l f g =

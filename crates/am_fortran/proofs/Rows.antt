@@ -1,24 +1,22 @@
 -- The lines of each item's text: none is longer than 72 columns or begins with another byte than a
 -- blank, and one statement has at most 18 continuation lines.
-use Rattle.std.proofs.Common.{◌≡◌, ◌++◌, ◌<◌, ◌≤◌, ◌+◌, ◌-◌, ◌^◌, ℕ, suc, Bool, true, false, List, [], ◌∷◌, length, length-append, take, drop, get_or, codes, map, refl, sym, ap, subst, ◌∙◌, arith, rules}
+use Rattle.std.proofs.Common.{◌≡◌, ◌++◌, ◌<◌, ◌≤◌, ◌+◌, ◌^◌, ℕ, suc, Bool, true, false, List, [], ◌∷◌, length, length-append, get_or, codes, map, refl, sym, ap, arith}
 use Rattle.std.specs.List.{flat_map, list_all}
-use Rattle.std.specs.Prelude.{◌&&◌, ◌==◌, not, ℤ, pos, negsuc, nat_le, if◌then◌else◌}
-use Rattle.std.specs.Fmt.{decimal, signed_decimal}
+use Rattle.std.specs.Prelude.{◌&&◌, ◌==◌, not, pos, negsuc, nat_le, if◌then◌else◌}
+use Rattle.std.specs.Fmt.{decimal}
 use Rattle.std.specs.Char.{is_ascii_digit}
-use Rattle.std.specs.Str.{bytes_eq}
 use Rattle.std.proofs.lemmas.Grind.{common_steps}
-use Rattle.std.proofs.lemmas.Bool.{and_parts, eqb-true, eqb-false, ne_eqb, ltb-true, leb-true, leb-false, cases_Bool}
+use Rattle.std.proofs.lemmas.Bool.{and_parts, ne_eqb, ltb-true, leb-true}
 use Rattle.std.proofs.lemmas.Bool.Decides.{nat_tests}
 use Rattle.std.proofs.lemmas.List.Folds.{list_all-append}
 use Rattle.std.proofs.lemmas.Fmt.{digits_decimal, length-decimal-le}
 use Rattle.std.proofs.lemmas.List.{length-map}
-use mathlib.Core.List.{append_assoc, append-nil}
+use mathlib.Core.List.{append-nil}
 use Rattle.am_term.specs.Names.{is_fortran_name, is_fortran_byte, is_upper}
-use Rattle.am_fortran.specs.Joined.{joined}
 use Rattle.am_fortran.specs.Text.{line, listed, continued, with_list, type_text, extents_text, declaration_text, statement_text, head_text, operand_text}
 use Rattle.am_fortran.specs.Well.{is_between, is_text_byte, is_type, is_declaration, is_statement, fits_statement, is_operand, fits_operand}
 use Rattle.am_fortran.specs.Items.{is_item, item_text}
-use Rattle.am_fortran.specs.Lines.{Line, line_bytes, lines, is_continuation, goes_on, groups}
+use Rattle.am_fortran.specs.Lines.{is_continuation}
 use Rattle.am_fortran.specs.declared.item.Item.{Item}
 use Rattle.am_fortran.specs.declared.item.Item.TheVariants.{Head, Declaration, Executable, End}
 use Rattle.am_fortran.specs.declared.statement.FortranType.{FortranType}
@@ -29,7 +27,7 @@ use Rattle.am_fortran.specs.declared.statement.Operand.TheVariants as operand
 use Rattle.am_fortran.specs.declared.statement.Statement.{Statement}
 use Rattle.am_fortran.specs.declared.statement.Statement.TheVariants.{Call, Assign, Apply}
 use Rattle.am_fortran.proofs.Digits.{own}
-use Rattle.am_fortran.proofs.Grouping.{is_inside, whole, lines_over, is_one_group, group_first}
+use Rattle.am_fortran.proofs.Grouping.{is_inside, whole}
 
 -- at most this many bytes, none of which ends a line
 pub record Piece (most : ℕ) (x : List ℕ) : Type 0 where

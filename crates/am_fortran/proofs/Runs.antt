@@ -1,5 +1,5 @@
 -- What the scanner of words makes of the pieces of a text.
-use Rattle.std.proofs.Common.{◌≡◌, ◌++◌, ◌<◌, ◌≤◌, ◌+◌, ℕ, Bool, true, false, List, [], ◌∷◌, length, codes, refl, sym, ap, ◌∙◌, arith, rules}
+use Rattle.std.proofs.Common.{◌≡◌, ◌++◌, ◌<◌, ℕ, true, false, List, [], ◌∷◌, length, refl, sym, ap, ◌∙◌, arith}
 use Rattle.std.specs.List.{flat_map, fold, list_all}
 use Rattle.std.specs.Prelude.{◌&&◌, ◌==◌, not}
 use Rattle.std.proofs.lemmas.Grind.{common_steps, fold-append}
@@ -8,7 +8,7 @@ use Rattle.std.proofs.lemmas.Bool.Decides.{nat_tests}
 use mathlib.Core.List.{append_assoc, append-nil}
 use Rattle.am_fortran.specs.Joined.{joined}
 use Rattle.am_fortran.specs.Well.{is_text_byte, is_between}
-use Rattle.am_fortran.specs.Words.{Scan, step, start, in_text, in_words, is_word_byte, with_word}
+use Rattle.am_fortran.specs.Words.{Scan, step, in_text, in_words, is_word_byte, with_word}
 
 -- between words, with these done
 abbrev pub between : List (List ℕ) → Scan

@@ -1,18 +1,18 @@
 -- The words of each item's text, in both layouts.
-use Rattle.std.proofs.Common.{◌≡◌, ◌++◌, ◌<◌, ◌≤◌, ◌+◌, ◌^◌, ℕ, suc, Bool, true, false, List, [], ◌∷◌, length, codes, map, refl, sym, ap, ◌∙◌, arith, rules}
-use Rattle.std.specs.List.{flat_map, fold, list_all}
-use Rattle.std.specs.Prelude.{◌&&◌, ◌==◌, not, ℤ, pos, negsuc, nat_le, if◌then◌else◌}
+use Rattle.std.proofs.Common.{◌≡◌, ◌++◌, ◌<◌, ◌+◌, ◌^◌, ℕ, suc, Bool, true, false, List, [], ◌∷◌, length, codes, map, refl, sym, ap, ◌∙◌, arith}
+use Rattle.std.specs.List.{fold, list_all}
+use Rattle.std.specs.Prelude.{◌&&◌, pos, negsuc, nat_le, if◌then◌else◌}
 use Rattle.std.specs.Fmt.{decimal, signed_decimal}
 use Rattle.std.specs.Char.{is_ascii_digit}
 use Rattle.std.proofs.lemmas.Grind.{common_steps}
-use Rattle.std.proofs.lemmas.Bool.{and_parts, ltb-true, leb-true}
+use Rattle.std.proofs.lemmas.Bool.{and_parts, ltb-true}
 use Rattle.std.proofs.lemmas.Bool.Decides.{nat_tests}
 use Rattle.std.proofs.lemmas.Fmt.{digits_decimal, decimal_nonempty}
 use mathlib.Core.List.{append_assoc, append-nil}
 use Rattle.am_term.specs.Names.{is_fortran_name, is_fortran_byte, is_upper}
 use Rattle.am_fortran.specs.Joined.{joined}
 use Rattle.am_fortran.specs.Text.{line, listed, continued, with_list, operand_text}
-use Rattle.am_fortran.specs.Well.{is_text_byte, is_between, is_operand, fits_operand, is_i64}
+use Rattle.am_fortran.specs.Well.{is_text_byte, is_between, is_operand, fits_operand}
 use Rattle.am_fortran.specs.Words.{Scan, step, start, in_text, in_words, is_word_byte, with_word, words}
 use Rattle.am_fortran.specs.declared.statement.Operand.{Operand}
 use Rattle.am_fortran.specs.declared.statement.Operand.TheVariants as operand

@@ -41,9 +41,7 @@ pub record IsGroupFront (bytes : List ℕ) (end count : ℕ) : Type 0 where
 unfoldable pub draft_items : Draft → List Item
 draft_items d = Head d.name d.dummies ∷ map Declaration d.declarations ++ map Executable d.statements ++ (if d.ended then End ∷ [] else [])
 
-abbrev pub head_item : List ℕ → List (List ℕ) → Item
-head_item name dummies = Head name dummies
-
+-- items, for clauses
 abbrev pub declaration_item : Decl → Item
 declaration_item d = Declaration d
 

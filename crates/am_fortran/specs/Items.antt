@@ -1,5 +1,5 @@
 -- The items of a unit's text: the head, the declarations, the executable statements and the end.
-use Rattle.std.specs.Prelude.{◌&&◌, ◌≡◌, ℕ, Bool, true, false, List, [], ◌∷◌, ◌++◌, length, codes, map}
+use Rattle.std.specs.Prelude.{◌&&◌, ◌≡◌, ℕ, Bool, true, false, List, length, codes}
 use Rattle.std.specs.List.{list_all}
 use Rattle.am_term.specs.Names.{is_fortran_name}
 use Rattle.am_fortran.specs.Lines.{Line, group_text}
@@ -7,7 +7,6 @@ use Rattle.am_fortran.specs.Text.{line, head_text, declaration_text, statement_t
 use Rattle.am_fortran.specs.Well.{is_between, is_declaration, is_statement, fits_statement}
 use Rattle.am_fortran.specs.declared.item.Item.{Item}
 use Rattle.am_fortran.specs.declared.item.Item.TheVariants.{Head, Declaration, Executable, End}
-use Rattle.am_fortran.specs.declared.unit.Unit.{Unit as Subroutine}
 
 -- which items there are: those of which a unit is made
 unfoldable pub is_item : Item → Bool

@@ -1,4 +1,8 @@
 ghost use Rattle.am_fortran.specs.Columns.{OneText, Columns};
+ghost use Rattle.am_fortran.specs.Units.{IsUnit};
+
+use crate::unit::Unit;
+use crate::well::numbers_fit;
 
 /// Two units that have one text are equal.
 pub fn law_of_one_text()
@@ -10,3 +14,11 @@ pub fn law_of_one_text()
 pub fn law_of_columns()
     ensures { Columns }
 {}
+
+/// The numbers of a unit in memory are those of 64 bits, so each such unit is one of which the other
+/// laws speak.
+pub fn law_of_numbers(unit: &Unit)
+    ensures { IsUnit unit.now }
+{
+    numbers_fit(unit.statements.as_slice());
+}

@@ -1,5 +1,5 @@
-ghost use Rattle.std.specs.Prelude.{◌≡◌, ◌<◌, ◌≤◌, ◌∷◌, length, take, drop, true};
-ghost use Rattle.am_fortran.specs.Lines.{lines, groups, is_whole, goes_on as is_going_on};
+ghost use Rattle.std.specs.Prelude.{◌≡◌, ◌<◌, length, true};
+ghost use Rattle.am_fortran.specs.Lines.{lines, goes_on as is_going_on};
 ghost use Rattle.am_fortran.specs.Drafts.{is_ended, IsGroupFront, IsLineFront};
 
 /// How many bytes and how many lines the first group of the bytes has: a line and the continuation

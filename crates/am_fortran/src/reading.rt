@@ -1,4 +1,4 @@
-ghost use Rattle.std.specs.Prelude.{◌≡◌, ◌≢◌, ◌<◌, ◌≤◌, ◌⊎◌, ℕ, List, length, drop, IfOk, IfErr, MatchResult};
+ghost use Rattle.std.specs.Prelude.{◌≡◌, ◌≢◌, ◌<◌, ◌≤◌, ◌⊎◌, ℕ, length, IfOk, IfErr, MatchResult};
 ghost use Rattle.am_fortran.specs.Text.{unit_text};
 ghost use Rattle.am_fortran.specs.Units.{IsUnit};
 ghost use Rattle.am_fortran.specs.Faults.{IsFault};

@@ -64,7 +64,9 @@ fn texts(rt: HostRuntime) -> Result<(), Fail> {
         EIGHTEEN,
     ] {
         let text = around(rt.alloc(), lines)?;
-        let unit = read(rt.alloc(), text.as_bytes()).ok().ok_or("the text is a unit's")?;
+        let unit = read(rt.alloc(), text.as_bytes())
+            .ok()
+            .ok_or("the text is a unit's")?;
         let again = write_unit(rt.alloc(), &unit)?;
         assert_eq!(rt; again.as_slice(), text.as_bytes(), "at {lines}");
     }
@@ -74,7 +76,9 @@ fn texts(rt: HostRuntime) -> Result<(), Fail> {
 /// The parts of a unit that was read.
 #[test]
 fn parts(rt: HostRuntime) -> Result<(), Fail> {
-    let unit = read(rt.alloc(), CONV.as_bytes()).ok().ok_or("the text is a unit's")?;
+    let unit = read(rt.alloc(), CONV.as_bytes())
+        .ok()
+        .ok_or("the text is a unit's")?;
     assert_eq!(rt; unit.name.as_str(), "CONV");
     assert_eq!(rt; unit.dummies.len(), 2);
     assert_eq!(rt; unit.declarations.len(), 2);
@@ -110,13 +114,22 @@ fn bad_lines(rt: HostRuntime) -> Result<(), Fail> {
         ("      CALL F(05)\n", UnitKind::BadStatement),
         ("      CALL F(-0)\n", UnitKind::BadStatement),
         ("      CALL F(+5)\n", UnitKind::BadStatement),
-        ("      CALL F(9223372036854775808)\n", UnitKind::BadStatement),
+        (
+            "      CALL F(9223372036854775808)\n",
+            UnitKind::BadStatement,
+        ),
         ("      CALL F('')\n", UnitKind::BadStatement),
         ("      CALL F('it''s')\n", UnitKind::BadStatement),
         ("      CALL F('\"')\n", UnitKind::BadStatement),
-        ("      CALL F('123456789012345678901234567890123')\n", UnitKind::BadStatement),
+        (
+            "      CALL F('123456789012345678901234567890123')\n",
+            UnitKind::BadStatement,
+        ),
         ("      CALL F(\n     . X)\n", UnitKind::BadStatement),
-        ("      CALL ABCDEF(T00001, T00002, T00003, T00004, T00005, T00006, ABCDEG)\n", UnitKind::BadStatement),
+        (
+            "      CALL ABCDEF(T00001, T00002, T00003, T00004, T00005, T00006, ABCDEG)\n",
+            UnitKind::BadStatement,
+        ),
         ("      DOUBLE PRECISION X(0)\n", UnitKind::BadStatement),
         ("      DOUBLE PRECISION X(3, 3)\n", UnitKind::BadStatement),
         ("      INTEGER X(3,3)\n", UnitKind::BadStatement),
@@ -126,7 +139,9 @@ fn bad_lines(rt: HostRuntime) -> Result<(), Fail> {
         ("      SUBROUTINE S(X)\n", UnitKind::Order),
     ] {
         let text = around(rt.alloc(), lines)?;
-        let fault = read(rt.alloc(), text.as_bytes()).err().ok_or("the text is no unit's")?;
+        let fault = read(rt.alloc(), text.as_bytes())
+            .err()
+            .ok_or("the text is no unit's")?;
         assert_eq!(rt; fault.line, 2, "at {lines}");
         assert_eq!(rt; fault.kind, kind, "at {lines}");
     }
@@ -143,23 +158,61 @@ fn faults(rt: HostRuntime) -> Result<(), Fail> {
         ("     . X)\n", 1, UnitKind::BadStatement),
         ("      SUBROUTINE S(X)", 1, UnitKind::Cut),
         ("      SUBROUTINE S(X)\n", 2, UnitKind::Cut),
-        ("      SUBROUTINE S(X)\n      INTEGER X\n      IN", 3, UnitKind::Cut),
+        (
+            "      SUBROUTINE S(X)\n      INTEGER X\n      IN",
+            3,
+            UnitKind::Cut,
+        ),
         ("      SUBROUTINE S(X)\n      EN", 2, UnitKind::Cut),
         ("      SUBROUTINE S(X)\n      END", 2, UnitKind::Cut),
-        ("      SUBROUTINE S(X)\n      X = 1\n      INTEGER X\n", 3, UnitKind::Order),
-        ("      SUBROUTINE S(X)\n      END\n      END\n", 3, UnitKind::Order),
-        ("      SUBROUTINE S(X)\n      END\n      X = 1\n", 3, UnitKind::Order),
-        ("      SUBROUTINE S(X)\n      END\n\n", 3, UnitKind::BadStatement),
+        (
+            "      SUBROUTINE S(X)\n      X = 1\n      INTEGER X\n",
+            3,
+            UnitKind::Order,
+        ),
+        (
+            "      SUBROUTINE S(X)\n      END\n      END\n",
+            3,
+            UnitKind::Order,
+        ),
+        (
+            "      SUBROUTINE S(X)\n      END\n      X = 1\n",
+            3,
+            UnitKind::Order,
+        ),
+        (
+            "      SUBROUTINE S(X)\n      END\n\n",
+            3,
+            UnitKind::BadStatement,
+        ),
         ("      SUBROUTINE S(X)\n      END\nx", 3, UnitKind::Cut),
         // The group goes on: a call of two lines, the second of which is cut.
-        ("      SUBROUTINE S(X)\n      CALL F(\n     . X", 2, UnitKind::Cut),
+        (
+            "      SUBROUTINE S(X)\n      CALL F(\n     . X",
+            2,
+            UnitKind::Cut,
+        ),
         // A continuation mark in column 5 continues nothing.
-        ("      SUBROUTINE S(X)\n      CALL F(\n    .  X)\n      END\n", 2, UnitKind::BadStatement),
-        ("      SUBROUTINE S(X)\n      X = 1\n      X =\n     . 1\n      INTEGER X\n", 3, UnitKind::BadStatement),
+        (
+            "      SUBROUTINE S(X)\n      CALL F(\n    .  X)\n      END\n",
+            2,
+            UnitKind::BadStatement,
+        ),
+        (
+            "      SUBROUTINE S(X)\n      X = 1\n      X =\n     . 1\n      INTEGER X\n",
+            3,
+            UnitKind::BadStatement,
+        ),
         // A blank more before the call.
-        ("      SUBROUTINE CONV(U, E)\n      CHARACTER*(*) U\n      DOUBLE PRECISION E\n       CALL UTC2ET(U, E)\n      END\n", 4, UnitKind::BadStatement),
+        (
+            "      SUBROUTINE CONV(U, E)\n      CHARACTER*(*) U\n      DOUBLE PRECISION E\n       CALL UTC2ET(U, E)\n      END\n",
+            4,
+            UnitKind::BadStatement,
+        ),
     ] {
-        let fault = read(rt.alloc(), text.as_bytes()).err().ok_or("the text is no unit's")?;
+        let fault = read(rt.alloc(), text.as_bytes())
+            .err()
+            .ok_or("the text is no unit's")?;
         assert_eq!(rt; fault.line, line, "at {text}");
         assert_eq!(rt; fault.kind, kind, "at {text}");
     }

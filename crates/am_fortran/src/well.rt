@@ -55,10 +55,7 @@ fn is_statement(statement: &Statement) -> bool
 {
     match statement {
         Statement::Call { routine, args } => {
-            is_name(routine)
-                && all_operands(args.as_slice())
-                && 1 <= args.len()
-                && args.len() <= 18
+            is_name(routine) && all_operands(args.as_slice()) && 1 <= args.len() && args.len() <= 18
         }
         Statement::Assign { target, from } => is_name(target) && is_operand(from),
         Statement::Apply {
@@ -141,4 +138,46 @@ fn is_name(name: &Name) -> bool
     ensures { result ≡ is_spelled_fortran name.now }
 {
     is_fortran_name(name.as_str().as_bytes())
+}
+
+/// Goes over the numbers of the statements, each of which is one of 64 bits.
+#[tactic(auto, using(crate::proofs::Elements::test_laws))]
+pub fn numbers_fit(statements: &[Statement])
+    ensures { list_all fits_statement statements.now ≡ true }
+{
+    for statement in statements {
+        statement_fits(statement);
+    }
+}
+
+#[tactic(auto, unfolding(crate::specs::Well::fits_statement))]
+fn statement_fits(statement: &Statement)
+    ensures { fits_statement statement.now ≡ true }
+{
+    match statement {
+        Statement::Call { args, .. } => operands_fit(args.as_slice()),
+        Statement::Assign { from, .. } => operand_fits(from),
+        Statement::Apply { args, .. } => operands_fit(args.as_slice()),
+    }
+}
+
+#[tactic(auto, using(crate::proofs::Elements::test_laws))]
+fn operands_fit(operands: &[Operand])
+    ensures { list_all fits_operand operands.now ≡ true }
+{
+    for operand in operands {
+        operand_fits(operand);
+    }
+}
+
+fn operand_fits(operand: &Operand)
+    ensures { fits_operand operand.now ≡ true }
+{
+    match operand {
+        Operand::Name(_) => {}
+        Operand::Int(number) => {
+            let _number = *number;
+        }
+        Operand::Text(_) => {}
+    }
 }

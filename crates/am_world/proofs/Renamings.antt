@@ -1,12 +1,12 @@
 -- Values and truth after renaming, and by assignments that agree where the variables are.
 use Rattle.std.proofs.Common.{◌≡◌, ◌∙◌, ◌==◌, ◌||◌, ◌<◌, ◌++◌, ℕ, Bool, true, false, not, refl, sym, ap, arith, if◌then◌else◌, List, [], ◌∷◌, map, length, Option, Some, None, IsTrue, slice_get}
-use Rattle.std.specs.List.{list_any, list_all, AllByRecursion}
+use Rattle.std.specs.List.{AllByRecursion}
 use Rattle.std.proofs.lemmas.Bool.Decides.{nat_tests}
 use Rattle.am_term.specs.declared.id.SortId.{SortId}
 use Rattle.am_term.specs.declared.id.SymId.{SymId}
 use Rattle.am_term.specs.declared.signature.Signature.{Signature}
 use Rattle.am_term.specs.declared.term.Term.{Term}
-use Rattle.am_term.specs.declared.term.Term.TheVariants.{Var, In, App}
+use Rattle.am_term.specs.declared.term.Term.TheVariants.{Var, App}
 use Rattle.am_term.specs.declared.term.Atom.{Atom}
 use Rattle.am_term.specs.declared.term.Atom.TheVariants.{Rel, Eq}
 use Rattle.am_term.specs.declared.term.Literal.{Literal}
@@ -19,14 +19,13 @@ use Rattle.am_clause.specs.declared.clause.Clause.{Clause}
 use Rattle.am_clause.specs.ClauseForm.{Lists, cnf, pos, merged_clause}
 use Rattle.am_clause.specs.Merge.{merged}
 use Rattle.am_clause.specs.Variables.{Variable, same_variable, occurrences, occurrences_all, in_atom, in_literals, in_clause, variables, occurrences-Var, occurrences-App, occurrences-more}
-use Rattle.am_clause.specs.Renaming.{Numbers, renamed, renamed_all, renamed_atom, renamed_literal, renamed_clause, places_in, renumbered, renamed-Var, renamed-In, renamed-App, renumbered-is}
+use Rattle.am_clause.specs.Renaming.{Numbers, renamed, renamed_all, renamed_atom, renamed_literal, places_in, renumbered, renamed-Var, renamed-In, renamed-App, renumbered-is}
 use Rattle.am_clause.proofs.Members.{any-distinct}
 use Rattle.am_clause.proofs.Places.{same_variable-refl}
 use Rattle.am_clause.proofs.Bijections.{read-place, listed}
 use Rattle.am_clause.proofs.Renames.{Within, within-left, within-right}
 use Rattle.am_world.specs.Interpretation.{Interpretation}
 use Rattle.am_world.specs.Value.{Assignment, IsAssignment, value, values, atom_truth, literal_truth, value-Var, value-In, value-App}
-use Rattle.am_world.specs.Truth.{truth}
 use Rattle.am_world.specs.ClauseTruth.{clause_truth, FormulaHolds, ClauseHolds, before_renaming}
 use Rattle.am_world.proofs.Columns.{some_true, all_true, pos-truth}
 

@@ -1,5 +1,5 @@
-use Rattle.std.proofs.Common.{◌≡◌, ◌+◌, ◌∙◌, true, false, arith, drop, slice_index_or, sym}
-use Rattle.am_clause.specs.Variables.{Variable, same_variable}
+use Rattle.std.proofs.Common.{◌≡◌, ◌+◌, ◌∙◌, arith, drop, sym}
+use Rattle.am_clause.specs.Variables.{Variable}
 use Rattle.am_clause.specs.Renaming.{places_in}
 use Rattle.am_clause.proofs.Places.{place-end, place-found, place-passed}
 use Rattle.am_clause.proofs.collecting.place.Goals as goal

@@ -3,5 +3,5 @@ use Rattle.am_clause.proofs.Merges.{merging_to}
 use Rattle.am_clause.proofs.merging.merge.Given as goal
 
 -- the literals so far, merged
-abbrev pub invariant-loop-literal : goal.invariant-loop-literal
-invariant-loop-literal l = l.made ≡ merging_to l.literal-index l.literals
+abbrev pub invariant-loop-i : goal.invariant-loop-i
+invariant-loop-i l = l.made ≡ merging_to l.i l.literals

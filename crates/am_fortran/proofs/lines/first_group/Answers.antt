@@ -1,4 +1,4 @@
-use Rattle.std.proofs.Common.{◌≡◌, ◌<◌, true, false, length, drop, refl, sym, ap, subst, ◌∙◌, List, ℕ}
+use Rattle.std.proofs.Common.{◌≡◌, true, false, drop, sym, ap, subst, ◌∙◌, List, ℕ}
 use Rattle.am_fortran.specs.Lines.{lines, goes_on}
 use Rattle.am_fortran.specs.Drafts.{IsLineFront}
 use Rattle.am_fortran.proofs.Grouping.{rest_is, goes_some, front_more, front_group}
@@ -15,7 +15,7 @@ loop-end-preserved c =
     let rest = rest_is c.args.bytes.now c.loop-end.end in
     let on : goes_on (lines (drop c.loop-end.end c.args.bytes.now)) ≡ true = sym (ap (λ (t : List ℕ). goes_on (lines t)) rest) ∙ sym c.goes_on.ensures ∙ c.loop-end-test.true in
     front_more c.args.bytes.now c.loop-end.end c.loop-end.count c.first_line-end-in-loop-end.result c.loop-end.invariant on
-      (subst (λ (t : List ℕ). IsLineFront t c.first_line-end-in-loop-end.result) rest c.first_line-end-in-loop-end.ensures)
+    (subst (λ (t : List ℕ). IsLineFront t c.first_line-end-in-loop-end.result) rest c.first_line-end-in-loop-end.ensures)
 
 pub returns : goal.returns
 returns c =

@@ -1,4 +1,4 @@
-use Rattle.std.proofs.Common.{◌≡◌, true, take, length, get_or, arith}
+use Rattle.std.proofs.Common.{◌≡◌, true, get_or, arith}
 use Rattle.std.specs.List.{list_all}
 use Rattle.std.proofs.lemmas.Grind.{common_steps}
 use Rattle.am_fortran.proofs.Grouping.{is_inside, front_ended, front_all}

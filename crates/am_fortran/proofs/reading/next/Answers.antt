@@ -1,5 +1,4 @@
-use Rattle.std.proofs.Common.{◌≡◌, ◌<◌, true, rules, arith, refl, sym, ap, subst, length, drop, ◌∙◌, List, ℕ}
-use Rattle.std.proofs.lemmas.Grind.{common_steps}
+use Rattle.std.proofs.Common.{◌≡◌, true, rules, arith, sym, subst, drop, List, ℕ}
 use Rattle.std.proofs.lemmas.Result.{err_from_is_err_and}
 use Rattle.am_fortran.specs.Drafts.{Fails, Unread, IsFound, draft_items, is_out}
 use Rattle.am_fortran.specs.declared.fault.ReadError.{ReadError}
@@ -13,7 +12,7 @@ returns-in_err-item-clause-err c =
     let p = err_from_is_err_and c.from_residual.result c.from_residual.ensures.1 in
     let rest = rest_is c.args.bytes.now c.args.progress.at in
     rw (p.1, p.2) (unread_fails c.args.bytes.now (drop c.args.progress.at c.args.bytes.now) (draft_items c.args.progress.draft) c.args.progress.line c.in_err-item.field-0.0 (ready_reads c.args.bytes.now c.args.progress c.requires.reads)
-      (subst (λ (t : List ℕ). Unread t c.args.progress.line c.in_err-item.field-0.0) rest c.in_err-item.ensures.err))
+    (subst (λ (t : List ℕ). Unread t c.args.progress.line c.in_err-item.field-0.0) rest c.in_err-item.ensures.err))
 
 pub returns-in-Some-clause-ok : goal.returns-in-Some-clause-ok
 returns-in-Some-clause-ok c =
@@ -28,5 +27,5 @@ returns-in-None-clause-err c =
     let found : IsFound (drop c.args.progress.at c.args.bytes.now) c.in_ok-item.field-0 = subst (λ (t : List ℕ). IsFound t c.in_ok-item.field-0) rest c.in_ok-item.ensures.ok in
     let out : is_out c.args.progress.draft c.in_ok-item.field-0.item ≡ true = search rules in
     subst (λ (e : ReadError). Fails c.args.bytes.now e) (sym c.fault.ensures)
-      (order_fails c.args.bytes.now (drop c.args.progress.at c.args.bytes.now) (draft_items c.args.progress.draft) c.args.progress.line c.in_ok-item.field-0 (ready_reads c.args.bytes.now c.args.progress c.requires.reads) found
-        (out_misplaced c.args.progress.draft _ c.in_ok-item.field-0.item c.requires.reads.kept out))
+    (order_fails c.args.bytes.now (drop c.args.progress.at c.args.bytes.now) (draft_items c.args.progress.draft) c.args.progress.line c.in_ok-item.field-0 (ready_reads c.args.bytes.now c.args.progress c.requires.reads) found
+    (out_misplaced c.args.progress.draft _ c.in_ok-item.field-0.item c.requires.reads.kept out))

@@ -1,5 +1,4 @@
-use Rattle.std.proofs.Common.{◌≡◌, ◌<◌, rules, arith, refl, sym, ap, subst, length, drop, ◌∙◌, List, ℕ}
-use Rattle.std.proofs.lemmas.Grind.{common_steps}
+use Rattle.std.proofs.Common.{◌<◌, arith, sym, subst, length}
 use Rattle.am_fortran.specs.Drafts.{Fails}
 use Rattle.am_fortran.specs.declared.fault.ReadError.{ReadError}
 use Rattle.am_fortran.proofs.Reached.{read_whole, end_fails}

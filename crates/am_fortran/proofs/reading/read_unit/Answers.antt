@@ -1,4 +1,4 @@
-use Rattle.std.proofs.Common.{◌≡◌, subst, sym, ◌∙◌, inr}
+use Rattle.std.proofs.Common.{subst, sym, ◌∙◌, inr}
 use Rattle.am_fortran.specs.Drafts.{Fails}
 use Rattle.am_fortran.proofs.Parts.{unit_injective}
 use Rattle.am_fortran.proofs.Reached.{no_fault, one_fault}

@@ -1,11 +1,10 @@
-use Rattle.std.proofs.Common.{◌≡◌, rules, arith, refl, sym, ap, subst, length, ◌∙◌}
+use Rattle.std.proofs.Common.{◌≡◌, arith, sym, subst, length}
 use Rattle.std.proofs.lemmas.Grind.{common_steps}
 use Rattle.std.proofs.lemmas.Result.{err_from_is_err_and}
 use Rattle.am_fortran.specs.Drafts.{Fails}
-use Rattle.am_fortran.specs.Lines.{lines, groups}
 use Rattle.am_fortran.specs.declared.fault.ReadError.{ReadError}
 use Rattle.am_fortran.proofs.Firsts.{first_misplaced}
-use Rattle.am_fortran.proofs.Reached.{ready_start, empty_fails, unread_fails, order_fails, started}
+use Rattle.am_fortran.proofs.Reached.{ready_start, empty_fails, unread_fails, order_fails}
 use Rattle.am_fortran.proofs.reading.start.Goals as goal
 
 pub returns-then-is_empty-clause-err : goal.returns-then-is_empty-clause-err
@@ -21,4 +20,4 @@ returns-in_err-item-clause-err c =
 pub returns-in-None-clause-err : goal.returns-in-None-clause-err
 returns-in-None-clause-err c =
     subst (λ (e : ReadError). Fails c.args.bytes.now e) (sym c.fault-in-None.ensures)
-      (order_fails c.args.bytes.now c.args.bytes.now _ 1 c.in_ok-item.field-0 (ready_start c.args.bytes.now) c.in_ok-item.ensures.ok (first_misplaced _ c.in_ok-item.field-0.item c.in-None.ensures))
+    (order_fails c.args.bytes.now c.args.bytes.now _ 1 c.in_ok-item.field-0 (ready_start c.args.bytes.now) c.in_ok-item.ensures.ok (first_misplaced _ c.in_ok-item.field-0.item c.in-None.ensures))

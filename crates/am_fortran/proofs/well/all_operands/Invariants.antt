@@ -8,4 +8,4 @@ abbrev pub invariant-loop-operand : goal.invariant-loop-operand
 invariant-loop-operand l = record {
   kept : list_all is_operand (take l.operand-index l.operands) ≡ true;
   fits : list_all fits_operand (take l.operand-index l.operands) ≡ true;
-  }
+}

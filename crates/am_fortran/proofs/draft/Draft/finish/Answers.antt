@@ -14,7 +14,7 @@ invariant_of-result c =
       some_dummy = k.some_dummy;
       few_dummies = k.few_dummies;
       declared = k.declared;
-      stated = k.stated
+      stated = k.stated;
     }
 
 pub returns : goal.returns

@@ -1,0 +1,5 @@
+      SUBROUTINE CONV(U, E)
+      CHARACTER*(*) U
+      DOUBLE PRECISION E
+      CALL UTC2ET(U, E)
+      END
