@@ -265,8 +265,8 @@ fn counts_sorts_and_routines(rt: HostRuntime) -> Result<(), Fail> {
 #[test]
 fn refuses_a_file_that_is_too_long(rt: HostRuntime) -> Result<(), Fail> {
     let mut text = String::from_str(rt.alloc(), TWO_ROUTINES)?;
-    while text.len() < 1_048_577 {
-        text.push_str("x")?;
+    for _ in 0..1_048_577 {
+        text.push('x')?;
     }
     expect_made(&rt, text.as_str(), CONV, Status::NotBuilt, "", NO_THEORY)?;
     expect_made(

@@ -1,3 +1,4 @@
 pub mod Columns
 pub mod Meanings
+pub mod Replacing
 pub mod Renamings

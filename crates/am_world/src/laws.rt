@@ -7,6 +7,7 @@ ghost use Rattle.am_term.specs.declared.term.Formula.{Formula};
 ghost use Rattle.am_term.specs.Sorts.{fits};
 ghost use Rattle.am_term.specs.Sorting.{sort_of};
 ghost use Rattle.am_term.specs.Instance.{instance};
+ghost use Rattle.am_term.specs.Place.{place, replaced};
 ghost use Rattle.am_clause.specs.ClauseForm.{cnf};
 ghost use Rattle.am_clause.specs.Renaming.{Numbers, renamed};
 ghost use Rattle.am_world.specs.ClauseTruth.{FormulaHolds, ClauseHolds, before_renaming};
@@ -33,6 +34,11 @@ pub fn law_of_values()
 /// the term that it became.
 pub fn law_of_instances()
     ensures { (w : Interpretation) (ins : List ℕ) (a : Assignment) (with : List Term) (t : Term) → value w ins a (instance with t) ≡ value w ins (through w ins a with) t }
+{}
+
+/// Replacing a part of a term by one of the same value keeps the value of the term.
+pub fn law_of_places()
+    ensures { (w : Interpretation) (ins : List ℕ) (a : Assignment) (new part : Term) → value w ins a new ≡ value w ins a part → (path : List ℕ) (t u : Term) → place path t ≡ Some part → replaced new path t ≡ Some u → value w ins a u ≡ value w ins a t }
 {}
 
 /// The value of a term with other numbers for its variables is the value of the term where each variable

@@ -9,7 +9,7 @@ mod laws;
 mod world;
 
 pub use laws::{
-    law_of_clauses, law_of_instances, law_of_members, law_of_renaming, law_of_values,
-    trivial_is_world,
+    law_of_clauses, law_of_instances, law_of_members, law_of_places, law_of_renaming,
+    law_of_values, trivial_is_world,
 };
 pub use world::{TrivialWorld, World};
