@@ -1,5 +1,5 @@
 -- What a command's answer says of its status.
-use Rattle.std.proofs.Common.{◌≡◌, ◌≢◌, ◌∙◌, ◌⊎◌, inl, inr, ℕ, true, refl, sym, ap, subst, Option, Some, None, List}
+use Rattle.std.proofs.Common.{◌≡◌, ◌≢◌, ◌∙◌, ◌⊎◌, inl, inr, ℕ, true, refl, sym, subst, Option, Some, List}
 use Rattle.std.proofs.lemmas.Grind.{common_steps}
 use Rattle.am_outside.specs.Growth.{Grows}
 use Rattle.am_world.specs.Interpretation.{Interpretation, IsWorld}
@@ -13,9 +13,9 @@ use Rattle.am_top.specs.declared.status.Status.{Status}
 use Rattle.am_top.specs.declared.status.Status.TheVariants as status
 use Rattle.am_top.specs.declared.thin.model.ThinTheory.{ThinTheory}
 use Rattle.am_top.specs.declared.thin.model.ThinDiagram.{ThinDiagram}
-use Rattle.am_top.specs.ThinTheory.{is_thin_theory, theory_of, IsTheoryText, HasNoTheory}
+use Rattle.am_top.specs.ThinTheory.{is_thin_theory, theory_of, IsTheoryText}
 use Rattle.am_top.specs.ThinDiagram.{diagram_of, IsDiagramText, HasNoDiagram}
-use Rattle.am_top.specs.Answers.{WhereRead, WordsAnswer, HasAnswer, IsMade, MakesText, HasNoMake, IsUnread, status_of, text_of}
+use Rattle.am_top.specs.Answers.{WhereRead, WordsAnswer, HasAnswer, IsMade, MakesText, IsUnread, status_of, text_of}
 use Rattle.am_top.proofs.TheoryAgain.{theory-again}
 use Rattle.am_top.proofs.DiagramAgain.{diagram-again}
 use Rattle.am_top.proofs.FirstRight.{first_unit-right}

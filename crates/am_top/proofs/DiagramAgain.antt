@@ -1,6 +1,6 @@
 -- The text of a thin diagram is read as that diagram.
 use Rattle.std.proofs.Common.{◌≡◌, ◌∙◌, ◌+◌, ◌<◌, ◌≤◌, ◌&&◌, ◌||◌, ◌==◌, ℕ, zero, suc, Bool, true, false, not, refl, sym, ap, subst, arith, Option, Some, None, List, [], ◌∷◌, ◌++◌, map, length, append_assoc, codes, nat_le, nat_lt, slice_index_or, slice_get, if◌then◌else◌, true≢false, fold}
-use Rattle.std.specs.List.{list_all, flat_map}
+use Rattle.std.specs.List.{list_all}
 use Rattle.std.specs.Str.{bytes_eq}
 use Rattle.std.proofs.lemmas.Bool.Decides.{nat_tests}
 use Rattle.am_term.specs.declared.id.SortId.{SortId}
@@ -9,19 +9,18 @@ use Rattle.am_term.specs.NameLists.{is_among, are_distinct}
 use Rattle.am_term.specs.Sorts.{same_sort}
 use Rattle.am_term.proofs.Tests.{and_left, and_right, and_both}
 use Rattle.am_diagram.specs.Canonical.{names_of, canon}
-use Rattle.am_top.specs.declared.thin.model.ThinSort.{ThinSort}
 use Rattle.am_top.specs.declared.thin.model.ThinRoutine.{ThinRoutine}
 use Rattle.am_top.specs.declared.thin.model.ThinTheory.{ThinTheory}
 use Rattle.am_top.specs.declared.thin.model.ThinDiagram.{ThinDiagram}
 use Rattle.am_top.specs.ThinTheory.{sort_names, output_names, routine_names, is_free_name, is_sort_below, is_thin_routine, is_thin_theory, theory_of}
 use Rattle.am_top.specs.ThinDiagram.{own_names, are_apart, has_sort, fill_places, calls_routine, is_thin_diagram, diagram_of, IsDiagramText}
-use Rattle.am_top.specs.Words.{is_separator, is_word, words_of, lines_of}
-use Rattle.am_top.specs.TheoryDraft.{place_of, sort_named}
-use Rattle.am_top.specs.TheoryLines.{name_in, ended, text_of}
+use Rattle.am_top.specs.Words.{words_of}
+use Rattle.am_top.specs.TheoryDraft.{place_of}
+use Rattle.am_top.specs.TheoryLines.{name_in, text_of}
 use Rattle.am_top.specs.DiagramLines.{diagram_text, declared_text, after_blanks, require_text, input_text, member_names, diagram_lines}
-use Rattle.am_top.specs.DiagramDraft.{below, routine_named, input_among, both_numbers, inputs_among, with_name, with_input, with_input_words, with_output, with_output_words, with_call, with_require_words, with_diagram_words, with_diagram_line, no_diagram, diagram_draft_of}
+use Rattle.am_top.specs.DiagramDraft.{below, routine_named, input_among, both_numbers, inputs_among, with_input, with_output, with_call, with_diagram_words, with_diagram_line, no_diagram, diagram_draft_of}
 use Rattle.am_top.proofs.NameTests.{place_of-seam, among-before, list_all-join}
-use Rattle.am_top.proofs.Splits.{apart, word_then, separator_then, words-none, line_then, lines_then, lines-none}
+use Rattle.am_top.proofs.Splits.{word_then, separator_then, words-none, lines_then, lines-none}
 use Rattle.am_top.specs.Words.{inline}
 use Rattle.am_top.proofs.Quiet.{IsQuiet, name-quiet, fortran-quiet}
 use Rattle.am_top.proofs.TheoryAgain.{quiet_then, IsSortList, sort_list, sort-found, ThinParts, thin_parts}

@@ -1,24 +1,21 @@
 -- The canonical text of a thin diagram is its lines, one after another.
-use Rattle.std.proofs.Common.{◌≡◌, ◌∙◌, ◌+◌, ◌<◌, ◌≤◌, ℕ, zero, suc, Bool, true, false, refl, sym, ap, arith, Option, Some, None, List, [], ◌∷◌, ◌++◌, map, length, append_assoc, codes, slice_get, slice_index_or, true≢false}
+use Rattle.std.proofs.Common.{◌≡◌, ◌∙◌, ◌≤◌, ℕ, zero, suc, true, refl, sym, ap, arith, Some, List, [], ◌∷◌, ◌++◌, map, length, append_assoc, codes, slice_get, slice_index_or}
 use Rattle.std.specs.List.{flat_map}
 use Rattle.std.proofs.lemmas.List.Concat.{flat_map-append}
 use Rattle.am_term.specs.declared.id.SortId.{SortId}
 use Rattle.am_term.specs.declared.id.SymId.{SymId}
-use Rattle.am_term.specs.declared.symbol.Symbol.{Symbol}
 use Rattle.am_term.specs.declared.signature.Signature.{Signature}
-use Rattle.am_term.specs.declared.term.Term.{Term}
 use Rattle.am_term.specs.declared.term.Term.TheVariants.{Var, In, App}
 use Rattle.am_term.specs.declared.term.Atom.TheVariants.{Eq}
 use Rattle.am_term.specs.Fold.{fold-Var, fold-In, fold-App}
-use Rattle.am_term.proofs.Tests.{and_left, and_right}
 use Rattle.am_theory.specs.Lookups.{sort_name, symbol_name, name_of}
 use Rattle.am_diagram.specs.declared.diagram.Diagram.{Diagram}
-use Rattle.am_diagram.specs.Canonical.{names_of, variable_names, headed, term_step, term_text, atom_text, literal_text, declared_line, required_line, canon}
+use Rattle.am_diagram.specs.Canonical.{names_of, headed, term_step, term_text, declared_line, required_line, canon}
 use Rattle.am_top.specs.declared.thin.model.ThinRoutine.{ThinRoutine}
 use Rattle.am_top.specs.declared.thin.model.ThinTheory.{ThinTheory}
 use Rattle.am_top.specs.declared.thin.model.ThinDiagram.{ThinDiagram}
 use Rattle.am_top.specs.ThinTheory.{sort_names, output_names, symbol_of, theory_of}
-use Rattle.am_top.specs.ThinDiagram.{answer_of, diagram_of, fill_places, has_sort}
+use Rattle.am_top.specs.ThinDiagram.{answer_of, diagram_of}
 use Rattle.am_top.specs.TheoryLines.{name_in, ended, text_of}
 use Rattle.am_top.specs.DiagramLines.{diagram_text, declared_text, after_blanks, require_text, input_text, member_names, diagram_lines}
 

@@ -1,5 +1,5 @@
 -- Reading a thin diagram.
-use Rattle.std.proofs.Common.{◌≡◌, ◌∙◌, ◌<◌, ◌≤◌, ℕ, Bool, true, false, sym, ap, arith, List, length}
+use Rattle.std.proofs.Common.{◌≡◌, ◌∙◌, ◌<◌, ◌≤◌, ℕ, true, false, sym, ap, arith, List, length}
 use Rattle.std.proofs.lemmas.Grind.{common_steps}
 use Rattle.am_term.proofs.Tests.{never_both}
 use Rattle.am_diagram.specs.Canonical.{canon}

@@ -1,5 +1,5 @@
 -- Writing a thin diagram.
-use Rattle.std.proofs.Common.{◌≡◌, ◌∙◌, ◌++◌, ◌∷◌, ◌<◌, ◌≤◌, ℕ, zero, suc, Bool, true, refl, sym, ap, arith, List, [], map, length, append_assoc, codes, slice_index_or, get_or}
+use Rattle.std.proofs.Common.{◌≡◌, ◌∙◌, ◌++◌, ◌∷◌, ◌<◌, ◌≤◌, ℕ, zero, suc, true, refl, sym, ap, arith, List, [], map, length, append_assoc, codes, slice_index_or, get_or}
 use Rattle.std.proofs.lemmas.Grind.{common_steps}
 use Rattle.am_term.specs.declared.id.SortId.{SortId}
 use Rattle.am_diagram.specs.Canonical.{canon, names_of}

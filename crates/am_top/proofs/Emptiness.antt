@@ -1,5 +1,5 @@
 -- A list is empty exactly where it has no length.
-use Rattle.std.proofs.Common.{◌≡◌, ◌==◌, ◌<◌, ◌+◌, ℕ, zero, suc, ap, take, map, slice_index_or, get_or, Bool, true, false, not, refl, List, [], ◌∷◌, length, arith, true≢false}
+use Rattle.std.proofs.Common.{◌≡◌, ◌==◌, ◌<◌, ℕ, zero, suc, ap, take, map, slice_index_or, get_or, true, false, refl, List, [], ◌∷◌, length, arith, true≢false}
 use Rattle.std.proofs.lemmas.Grind.{common_steps}
 use Rattle.std.proofs.lemmas.Bool.Decides.{nat_tests}
 use denote.Ref.{Bor}

@@ -1,5 +1,5 @@
 -- Which answer the files have.
-use Rattle.std.proofs.Common.{◌≡◌, ◌∙◌, ◌<◌, ◌≤◌, ◌+◌, ℕ, Bool, true, refl, sym, subst, arith, Option, Some, None, List, length}
+use Rattle.std.proofs.Common.{◌≡◌, ◌<◌, ℕ, subst, Option, List, length}
 use Rattle.std.proofs.lemmas.Grind.{common_steps}
 use Rattle.am_outside.specs.Growth.{WhereTold}
 use Rattle.am_top.specs.declared.answer.File.TheVariants.{Theory, Diagram}
@@ -7,9 +7,9 @@ use Rattle.am_top.specs.declared.answer.Answer.{Answer}
 use Rattle.am_top.specs.declared.answer.Answer.TheVariants.{Text, Usage, NotBuilt, Unread, NoMemory}
 use Rattle.am_top.specs.declared.thin.model.ThinTheory.{ThinTheory}
 use Rattle.am_top.specs.declared.thin.model.ThinDiagram.{ThinDiagram}
-use Rattle.am_top.specs.ThinTheory.{is_thin_theory, IsTheoryText, HasNoTheory, file_limit}
-use Rattle.am_top.specs.ThinDiagram.{is_thin_diagram, IsDiagramText, HasNoDiagram}
-use Rattle.am_top.specs.Answers.{IsTheoryFound, IsDiagramFound, IsUnitText, IsTextOf, TheoryRefused, DiagramRefused, HasAnswer, HasTheory, HasNoMake, MakesText, IsMade}
+use Rattle.am_top.specs.ThinTheory.{IsTheoryText, HasNoTheory, file_limit}
+use Rattle.am_top.specs.ThinDiagram.{IsDiagramText, HasNoDiagram}
+use Rattle.am_top.specs.Answers.{IsTheoryFound, IsDiagramFound, IsUnitText, TheoryRefused, DiagramRefused, HasAnswer}
 use Rattle.am_top.proofs.TheoryFound.{no_theory_long}
 use Rattle.am_top.proofs.DiagramFound.{no_diagram_long}
 

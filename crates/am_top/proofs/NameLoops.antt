@@ -1,10 +1,9 @@
 -- Going over lists of names and of inputs.
-use Rattle.std.proofs.Common.{◌≡◌, ◌<◌, ◌≤◌, ℕ, zero, suc, Bool, true, false, refl, List, [], ◌∷◌, length, get_or, arith, ◌==◌}
+use Rattle.std.proofs.Common.{◌≡◌, ◌<◌, ◌≤◌, ℕ, zero, suc, false, refl, List, [], ◌∷◌, length, get_or, arith, ◌==◌}
 use Rattle.std.proofs.lemmas.Grind.{common_steps}
 use Rattle.std.proofs.lemmas.Bool.Decides.{nat_tests}
 use Rattle.std.proofs.lemmas.List.Folds.{list_all_more, list_all_at}
 use Rattle.am_term.specs.declared.id.SortId.{SortId}
-use Rattle.am_term.specs.Sorts.{same_sort}
 use Rattle.am_top.specs.ThinDiagram.{has_sort}
 
 pub ruleset name_laws = (common_steps, nat_tests, list_all_more, list_all_at)

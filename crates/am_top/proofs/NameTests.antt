@@ -1,11 +1,10 @@
 -- Comparing names, and finding one among several.
-use Rattle.std.proofs.Common.{◌≡◌, ◌≢◌, ◌∙◌, ◌+◌, ◌<◌, ◌&&◌, ◌||◌, ℕ, zero, suc, Bool, true, false, not, refl, sym, ap, subst, arith, add-one, Option, Some, None, List, [], ◌∷◌, ◌++◌, cond, length, true≢false, slice_get, append_assoc, nat_eq}
-use Rattle.std.proofs.lemmas.Grind.{common_steps}
+use Rattle.std.proofs.Common.{◌≡◌, ◌∙◌, ◌||◌, ℕ, Bool, true, false, not, refl, sym, ap, subst, arith, Some, List, [], ◌∷◌, ◌++◌, cond, length, true≢false, slice_get, nat_eq}
 use Rattle.std.proofs.lemmas.Bool.Decides.{nat_tests}
 use Rattle.std.specs.Str.{bytes_eq}
-use Rattle.std.specs.List.{list_any, list_all}
+use Rattle.std.specs.List.{list_all}
 use Rattle.am_term.specs.NameLists.{is_among, are_distinct}
-use Rattle.am_term.proofs.Tests.{and_left, and_right, and_both, or_left, or_right, not_false, true_not, never_both}
+use Rattle.am_term.proofs.Tests.{and_left, and_right, and_both, true_not, never_both}
 use Rattle.am_top.specs.TheoryDraft.{place_of, one_more}
 
 pub eq_same : (n : List ℕ) → bytes_eq n n ≡ true

@@ -1,5 +1,5 @@
 -- Words of a line and lines of a text, one after another.
-use Rattle.std.proofs.Common.{◌≡◌, ◌∙◌, ◌==◌, ℕ, Bool, true, false, not, refl, sym, ap, List, [], ◌∷◌, ◌++◌, cond, append_assoc, true≢false}
+use Rattle.std.proofs.Common.{◌≡◌, ◌∙◌, ◌==◌, ℕ, Bool, true, not, refl, ap, List, [], ◌∷◌, ◌++◌, cond, append_assoc}
 use Rattle.std.specs.List.{list_all, slice_split, onto_first, flat_map, filter}
 use Rattle.std.proofs.lemmas.List.Splits.{slice_split-cons_yes, slice_split-cons_no}
 use Rattle.am_term.proofs.Tests.{and_left, and_right, true_not}

@@ -1,26 +1,24 @@
 -- The text of a thin theory is read as that theory.
-use Rattle.std.proofs.Common.{◌≡◌, ◌∙◌, ◌+◌, ◌-◌, ◌^◌, ◌<◌, ◌≤◌, ◌&&◌, ◌==◌, ℕ, zero, suc, Bool, true, false, not, refl, sym, ap, subst, arith, Option, Some, None, List, [], ◌∷◌, ◌++◌, map, length, take, append_assoc, codes, cond, nat_le, nat_lt, slice_index_or, slice_get, get_or, if◌then◌else◌, true≢false, fold}
+use Rattle.std.proofs.Common.{◌≡◌, ◌∙◌, ◌+◌, ◌-◌, ◌<◌, ◌≤◌, ◌&&◌, ◌==◌, ℕ, zero, suc, Bool, true, not, refl, sym, ap, subst, arith, Some, None, List, [], ◌∷◌, ◌++◌, map, length, take, append_assoc, codes, nat_le, nat_lt, slice_index_or, slice_get, if◌then◌else◌, true≢false, fold}
 use Rattle.std.specs.List.{list_all}
-use Rattle.std.specs.Str.{bytes_eq}
 use Rattle.std.specs.Fmt.{decimal}
-use Rattle.std.proofs.lemmas.Grind.{common_steps}
 use Rattle.std.proofs.lemmas.Bool.Decides.{nat_tests}
 use Rattle.am_term.specs.declared.id.SortId.{SortId}
 use Rattle.am_term.specs.Names.{is_name, is_fortran_name, is_local_name}
-use Rattle.am_term.specs.NameLists.{is_among, are_distinct}
+use Rattle.am_term.specs.NameLists.{are_distinct}
 use Rattle.am_term.proofs.Tests.{and_left, and_right, and_both}
 use Rattle.am_theory.specs.declared.theory.Rep.{Rep}
 use Rattle.am_theory.specs.declared.theory.Rep.TheVariants.{Double, Integer, Logical, Char, DoubleVec, DoubleMat, IntegerVec}
-use Rattle.am_theory.specs.Canonical.{rep_text, spaced}
+use Rattle.am_theory.specs.Canonical.{spaced}
 use Rattle.am_top.specs.declared.thin.model.ThinSort.{ThinSort}
 use Rattle.am_top.specs.declared.thin.model.ThinRoutine.{ThinRoutine}
 use Rattle.am_top.specs.declared.thin.model.ThinTheory.{ThinTheory}
-use Rattle.am_top.specs.ThinTheory.{sort_names, output_names, routine_names, is_thin_rep, is_thin_sort, is_free_name, is_sort_below, is_thin_routine, is_thin_theory, theory_of, IsTheoryText}
-use Rattle.am_top.specs.Words.{is_separator, is_word, words_of, lines_of}
-use Rattle.am_top.specs.TheoryDraft.{number_of, place_of, sort_at, sort_named, both_sorts, sorts_named, with_sort, with_sort_words, with_routine, with_routine_words, with_words, with_line, no_theory, draft_of}
-use Rattle.am_top.specs.TheoryLines.{name_in, sort_text, routine_text, ended, text_of, theory_lines}
+use Rattle.am_top.specs.ThinTheory.{sort_names, output_names, routine_names, is_thin_rep, is_thin_sort, is_free_name, is_sort_below, is_thin_routine, is_thin_theory, IsTheoryText}
+use Rattle.am_top.specs.Words.{is_separator, words_of}
+use Rattle.am_top.specs.TheoryDraft.{place_of, sort_at, sort_named, both_sorts, sorts_named, with_sort, with_routine, with_routine_words, with_words, with_line, no_theory, draft_of}
+use Rattle.am_top.specs.TheoryLines.{name_in, sort_text, routine_text, text_of, theory_lines}
 use Rattle.am_top.proofs.NameTests.{place_of-seam, among-before, list_all-join}
-use Rattle.am_top.proofs.Splits.{apart, word_then, separator_then, words-none, line_then, lines_then, lines-none}
+use Rattle.am_top.proofs.Splits.{word_then, separator_then, words-none, lines_then, lines-none}
 use Rattle.am_top.specs.Words.{inline}
 use Rattle.am_top.proofs.Quiet.{IsQuiet, name-quiet, fortran-quiet, decimal-quiet, number_of-decimal}
 use Rattle.am_top.proofs.TheoryCanon.{canon-lines}

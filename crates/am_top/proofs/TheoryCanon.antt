@@ -1,20 +1,17 @@
 -- The canonical text of a thin theory is its lines, one after another.
-use Rattle.std.proofs.Common.{◌≡◌, ◌∙◌, ◌+◌, ℕ, zero, suc, refl, sym, ap, arith, Option, Some, None, List, [], ◌∷◌, ◌++◌, map, length, append_assoc, codes, slice_get}
+use Rattle.std.proofs.Common.{◌≡◌, ◌∙◌, ◌+◌, ℕ, suc, refl, sym, ap, arith, Option, Some, None, List, [], ◌∷◌, ◌++◌, map, length, append_assoc, codes, slice_get}
 use Rattle.std.specs.List.{flat_map}
 use Rattle.std.proofs.lemmas.List.Concat.{flat_map-append}
-use Rattle.am_term.specs.declared.id.SortId.{SortId}
 use Rattle.am_term.specs.declared.id.SymId.{SymId}
 use Rattle.am_term.specs.declared.symbol.Symbol.{Symbol}
 use Rattle.am_term.specs.declared.signature.Signature.{Signature}
-use Rattle.am_theory.specs.declared.theory.Rep.{Rep}
-use Rattle.am_theory.specs.declared.theory.Routine.{Routine}
-use Rattle.am_theory.specs.Lookups.{sort_name, symbol_name, result_name, name_of, result_of, name_at}
-use Rattle.am_theory.specs.Canonical.{rep_text, rep_text_of, after_blank, spaced, sort_line, sort_lines, output_text, routine_line, canon}
+use Rattle.am_theory.specs.Lookups.{sort_name, name_of, result_of, name_at}
+use Rattle.am_theory.specs.Canonical.{spaced, sort_line, sort_lines, output_text, routine_line, canon}
 use Rattle.am_top.specs.declared.thin.model.ThinSort.{ThinSort}
 use Rattle.am_top.specs.declared.thin.model.ThinRoutine.{ThinRoutine}
 use Rattle.am_top.specs.declared.thin.model.ThinTheory.{ThinTheory}
-use Rattle.am_top.specs.ThinTheory.{sort_names, symbol_of, parents_of, routines_from, theory_of}
-use Rattle.am_top.specs.TheoryLines.{name_in, sort_text, routine_text, ended, text_of, theory_lines}
+use Rattle.am_top.specs.ThinTheory.{sort_names, symbol_of, routines_from, theory_of}
+use Rattle.am_top.specs.TheoryLines.{sort_text, routine_text, ended, text_of, theory_lines}
 use Rattle.am_top.proofs.NameTests.{slice_get-seam}
 
 no_copies : List ThinSort → List (Option (List ℕ))

@@ -1,15 +1,13 @@
 -- Reading a thin theory.
-use Rattle.std.proofs.Common.{◌≡◌, ◌∙◌, ◌+◌, ◌-◌, ◌*◌, ◌<◌, ◌≤◌, ◌^◌, ◌&&◌, ◌++◌, ◌∷◌, ℕ, zero, suc, Bool, true, false, refl, sym, ap, arith, Option, Some, None, List, [], map, length, nat_eq, append_assoc}
+use Rattle.std.proofs.Common.{◌≡◌, ◌∙◌, ◌<◌, ◌≤◌, ℕ, true, false, refl, sym, ap, arith, Option, Some, None, List, length}
 use Rattle.std.proofs.lemmas.Grind.{common_steps}
 use Rattle.std.proofs.lemmas.Bool.Decides.{nat_tests}
-use Rattle.std.specs.List.{list_all}
 use Rattle.am_term.specs.declared.id.SortId.{SortId}
-use Rattle.am_term.specs.Names.{is_digit}
-use Rattle.am_term.proofs.Tests.{and_left, and_right, never_both}
+use Rattle.am_term.proofs.Tests.{never_both}
 use Rattle.am_theory.specs.Canonical.{canon}
 use Rattle.am_top.specs.declared.thin.model.ThinTheory.{ThinTheory}
-use Rattle.am_top.specs.ThinTheory.{is_thin_theory, theory_of, IsTheoryText, HasNoTheory, file_limit}
-use Rattle.am_top.specs.TheoryDraft.{draft_of, read_on, one_more, place_of, both_sorts}
+use Rattle.am_top.specs.ThinTheory.{is_thin_theory, theory_of, IsTheoryText, HasNoTheory}
+use Rattle.am_top.specs.TheoryDraft.{draft_of, both_sorts}
 use Rattle.am_top.proofs.TheoryAgain.{theory-again}
 
 -- what makes a draft the theory of the bytes

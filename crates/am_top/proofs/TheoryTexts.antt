@@ -1,7 +1,6 @@
 -- Writing a thin theory.
 use Rattle.std.proofs.Common.{◌≡◌, ◌∙◌, ◌++◌, ◌∷◌, ◌<◌, ◌≤◌, ℕ, zero, suc, refl, sym, ap, arith, List, [], map, length, append_assoc, codes, slice_index_or, get_or}
 use Rattle.std.proofs.lemmas.Grind.{common_steps}
-use Rattle.am_term.specs.declared.id.SortId.{SortId}
 use Rattle.am_theory.specs.Canonical.{spaced}
 use Rattle.am_top.specs.declared.thin.model.ThinSort.{ThinSort}
 use Rattle.am_top.specs.ThinTheory.{sort_names}

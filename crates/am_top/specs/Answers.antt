@@ -4,7 +4,6 @@ use Rattle.std.specs.Str.{bytes_eq}
 use Rattle.am_outside.specs.Growth.{WhereTold}
 use Rattle.am_fortran.specs.declared.unit.Unit.{Unit as Subroutine}
 use Rattle.am_fortran.specs.Text.{unit_text}
-use Rattle.am_top.specs.declared.answer.File.{File}
 use Rattle.am_top.specs.declared.answer.File.TheVariants.{Theory, Diagram}
 use Rattle.am_top.specs.declared.answer.Answer.{Answer}
 use Rattle.am_top.specs.declared.answer.Answer.TheVariants.{Text, Usage, NotBuilt, Unread, NoMemory}

@@ -1,6 +1,6 @@
 -- What the lines of a diagram file would declare, if the file were thin. Lines that declare nothing are
 -- passed over: whether the text is that of the draft is seen by writing it.
-use Rattle.std.specs.Prelude.{◌+◌, ℕ, Bool, true, false, Option, Some, None, List, [], ◌∷◌, ◌++◌, cond, codes, nat_lt, fold, if◌then◌else◌}
+use Rattle.std.specs.Prelude.{ℕ, Option, Some, None, List, [], ◌∷◌, ◌++◌, codes, nat_lt, fold, if◌then◌else◌}
 use Rattle.std.specs.Str.{bytes_eq}
 use Rattle.am_term.specs.declared.id.SortId.{SortId}
 use Rattle.am_diagram.specs.Canonical.{names_of}

@@ -1,5 +1,5 @@
 -- The lines of a thin diagram's text.
-use Rattle.std.specs.Prelude.{ℕ, Option, Some, None, List, [], ◌∷◌, ◌++◌, map, codes, slice_index_or}
+use Rattle.std.specs.Prelude.{ℕ, List, [], ◌∷◌, ◌++◌, map, codes, slice_index_or}
 use Rattle.std.specs.List.{flat_map}
 use Rattle.am_term.specs.declared.id.SortId.{SortId}
 use Rattle.am_diagram.specs.Canonical.{names_of}

@@ -1,6 +1,6 @@
 -- What the lines of a theory file would declare, if the file were thin. Lines that declare nothing are
 -- passed over: whether the text is that of the draft is seen by writing it.
-use Rattle.std.specs.Prelude.{◌&&◌, ◌+◌, ◌-◌, ◌*◌, ℕ, zero, suc, Bool, true, false, Option, Some, None, List, [], ◌∷◌, ◌++◌, length, take, cond, codes, nat_le, nat_lt, fold, option_map, slice_get, slice_index_or, slice_index, if◌then◌else◌}
+use Rattle.std.specs.Prelude.{◌&&◌, ◌+◌, ◌-◌, ◌*◌, ℕ, Option, Some, None, List, [], ◌∷◌, ◌++◌, length, take, cond, codes, nat_le, nat_lt, fold, slice_index_or, if◌then◌else◌}
 use Rattle.std.specs.List.{list_all}
 use Rattle.std.specs.Str.{bytes_eq}
 use Rattle.am_term.specs.declared.id.SortId.{SortId}
@@ -8,7 +8,6 @@ use Rattle.am_term.specs.Names.{is_name, is_digit}
 use Rattle.am_theory.specs.declared.theory.Rep.{Rep}
 use Rattle.am_theory.specs.declared.theory.Rep.TheVariants.{Double, Char}
 use Rattle.am_top.specs.declared.thin.model.ThinSort.{ThinSort}
-use Rattle.am_top.specs.declared.thin.model.ThinRoutine.{ThinRoutine}
 use Rattle.am_top.specs.declared.thin.model.ThinTheory.{ThinTheory}
 use Rattle.am_top.specs.ThinTheory.{sort_names, is_free_name}
 use Rattle.am_top.specs.Words.{words_of, lines_of}

@@ -1,16 +1,14 @@
 -- Thin diagrams: one output, which one call of a routine gives from the inputs.
-use Rattle.std.specs.Prelude.{◌≡◌, ◌&&◌, ◌≤◌, ◌==◌, ◌++◌, ℕ, zero, suc, Bool, true, false, not, Option, Some, None, List, [], ◌∷◌, map, length, nat_le, nat_lt, slice_get, IsTrue}
-use Rattle.std.specs.List.{list_all, list_any}
+use Rattle.std.specs.Prelude.{◌≡◌, ◌&&◌, ◌≤◌, ◌++◌, ℕ, zero, suc, Bool, true, false, not, Option, Some, None, List, [], ◌∷◌, map, length, nat_le, slice_get, IsTrue}
+use Rattle.std.specs.List.{list_all}
 use Rattle.am_term.specs.declared.id.SortId.{SortId}
 use Rattle.am_term.specs.declared.term.Term.{Term}
 use Rattle.am_term.specs.declared.term.Term.TheVariants.{Var, In, App}
 use Rattle.am_term.specs.declared.term.Atom.TheVariants.{Eq}
-use Rattle.am_term.specs.declared.term.Literal.{Literal}
 use Rattle.am_term.specs.Sorts.{same_sort}
 use Rattle.am_term.specs.NameLists.{is_among, are_distinct}
 use Rattle.am_diagram.specs.declared.diagram.Diagram.{Diagram}
 use Rattle.am_diagram.specs.Canonical.{names_of, canon}
-use Rattle.am_top.specs.declared.thin.model.ThinSort.{ThinSort}
 use Rattle.am_top.specs.declared.thin.model.ThinRoutine.{ThinRoutine}
 use Rattle.am_top.specs.declared.thin.model.ThinTheory.{ThinTheory}
 use Rattle.am_top.specs.declared.thin.model.ThinDiagram.{ThinDiagram}

@@ -3,7 +3,6 @@ use Rattle.std.specs.Prelude.{◌≡◌, ◌&&◌, ◌≤◌, ◌<◌, ◌+◌, 
 use Rattle.std.proofs.Common.{ap, sym, subst}
 use Rattle.std.specs.List.{list_all}
 use Rattle.am_term.specs.declared.id.SortId.{SortId}
-use Rattle.am_term.specs.declared.id.SymId.{SymId}
 use Rattle.am_term.specs.declared.kind.SymKind.TheVariants.{Output}
 use Rattle.am_term.specs.declared.symbol.Symbol.{Symbol}
 use Rattle.am_term.specs.Names.{is_name, is_fortran_name, is_local_name}

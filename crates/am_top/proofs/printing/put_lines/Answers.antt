@@ -1,4 +1,4 @@
-use Rattle.std.proofs.Common.{arith, rules, refl, ◌+◌, ◌-◌}
+use Rattle.std.proofs.Common.{arith, refl}
 use Rattle.std.proofs.lemmas.Grind.{common_steps}
 use Rattle.am_top.proofs.Growth.{grows_on, grows_part_on}
 use Rattle.am_top.proofs.printing.put_lines.Goals as goal

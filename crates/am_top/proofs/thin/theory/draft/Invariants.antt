@@ -1,5 +1,4 @@
 use Rattle.std.proofs.Common.{◌≡◌, map, length, fold}
-use Rattle.am_top.specs.Words.{lines_of}
 use Rattle.am_top.specs.TheoryDraft.{with_line, draft_of}
 use Rattle.am_top.proofs.thin.theory.draft.Given as goal
 

@@ -1,6 +1,6 @@
 use Rattle.std.proofs.Common.{◌≡◌, ◌++◌, map, length}
 use Rattle.am_top.specs.ThinTheory.{sort_names}
-use Rattle.am_top.specs.TheoryLines.{sort_text, routine_text, text_of}
+use Rattle.am_top.specs.TheoryLines.{routine_text, text_of}
 use Rattle.am_top.proofs.thin.theory_text.push_routines.Given as goal
 
 -- the text so far, with the lines that are left, is all of it
