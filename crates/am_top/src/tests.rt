@@ -225,6 +225,28 @@ fn knows_the_limits_of_diagrams(rt: HostRuntime) -> Result<(), Fail> {
     Ok(())
 }
 
+const FIVE_PLACES: &str =
+    "(theory 1)\n(sort q double)\n(sort r double)\n(routine F (q r q r q) (f r))\n";
+
+const FIVE_MEMBERS: &str =
+    "(diagram D)\n(input A q)\n(input B r)\n(output C r)\n(require (= C (f A B A B A)))\n";
+
+const FIVE_MEMBERS_UNIT: &str =
+    "      SUBROUTINE D(A, B, C)\n      DOUBLE PRECISION A\n      DOUBLE PRECISION B\n      DOUBLE PRECISION C\n      CALL F(A, B, A, B, A, C)\n      END\n";
+
+#[test]
+fn calls_a_routine_of_five_inputs(rt: HostRuntime) -> Result<(), Fail> {
+    expect_made(
+        &rt,
+        FIVE_PLACES,
+        FIVE_MEMBERS,
+        Status::Ok,
+        FIVE_MEMBERS_UNIT,
+        "",
+    )?;
+    Ok(())
+}
+
 /// The theory of two routines with further sorts and routines of numbered names.
 fn large_theory(alloc: Global, sorts: u32, routines: u32) -> Result<String, Fail> {
     let mut text = String::from_str(
@@ -265,7 +287,7 @@ fn counts_sorts_and_routines(rt: HostRuntime) -> Result<(), Fail> {
 #[test]
 fn refuses_a_file_that_is_too_long(rt: HostRuntime) -> Result<(), Fail> {
     let mut text = String::from_str(rt.alloc(), TWO_ROUTINES)?;
-    for _ in 0..1_048_577 {
+    for _ in text.len()..1_048_577 {
         text.push('x')?;
     }
     expect_made(&rt, text.as_str(), CONV, Status::NotBuilt, "", NO_THEORY)?;
