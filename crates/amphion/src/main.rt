@@ -4,7 +4,7 @@
 //! What a text that it prints means is said by the contract of `am_top::run`.
 #![tactic(auto)]
 
-use am_outside::{Folder, StdErr, StdOut};
+use am_outside::{Folder, Sink, StdErr, StdOut};
 use am_top::{Status, run};
 use am_world::TrivialWorld;
 use std::alloc::{AllocGlobal, Global};
@@ -15,8 +15,16 @@ use std::{env, io};
 fn main(rt: HostRuntime) -> ExitCode {
     let alloc = rt.alloc();
     let mut err = StdErr::new(rt.stderr());
-    let Ok(words) = words_of(&rt, alloc) else {
-        return ExitCode::from(Status::NoMemory.code());
+    let words = match words_of(&rt, alloc) {
+        Ok(words) => words,
+        Err(error) => match error.kind() {
+            io::ErrorKind::OutOfMemory => {
+                let _is_done = err.put(b"amphion: no memory\n");
+                return ExitCode::from(Status::NoMemory.code());
+            }
+            // A word that is no UTF-8 has no reading, and no more have no words.
+            _ => Vec::new(alloc),
+        },
     };
     let mut library = Folder::new(&rt);
     let mut out = StdOut::new(rt.stdout());
