@@ -3,7 +3,7 @@ use Rattle.std.proofs.Common.{◌≡◌, ◌∙◌, ◌<◌, ◌≤◌, ◌||◌
 use Rattle.std.proofs.lemmas.Bool.Decides.{nat_tests}
 use Rattle.am_term.specs.declared.id.SortId.{SortId}
 use Rattle.am_term.specs.declared.signature.Signature.{Signature}
-use Rattle.am_term.specs.Sorts.{same_sort, below, parent, at_parent, fits_within, fits, root_within, root, akin}
+use Rattle.am_term.specs.Sorts.{same_sort, below, parent, at_parent, fits_within, fits_in, fits, root_within, root_in, root, akin_in, akin}
 
 pub same_sort-same : (s : SortId) → same_sort s s ≡ true
 same_sort-same s = grind (arith, nat_tests)
@@ -39,30 +39,30 @@ module _ (sig : Signature) where
   first_alone s (Some p) h e = let l = parent-lower s p e in absurd (omega arith)
 
   -- what is counted doesn't matter, if it is enough
-  fits-enough : (m n : ℕ) (s t : SortId) → s.0 ≤ m → s.0 ≤ n → fits_within sig m s t ≡ fits_within sig n s t
+  fits-enough : (m n : ℕ) (s t : SortId) → s.0 ≤ m → s.0 ≤ n → fits_within sig.parents m s t ≡ fits_within sig.parents n s t
   fits-enough zero zero s t h k = refl
   fits-enough zero (suc n) s t h k = rw (first_alone s (parent sig s) h refl) (sym (or_false (same_sort s t)))
   fits-enough (suc m) zero s t h k = rw (first_alone s (parent sig s) k refl) (or_false (same_sort s t))
-  fits-enough (suc m) (suc n) s t h k = ap (λ b. same_sort s t || b) (at_parent-same (parent sig s) (λ p. fits_within sig m p t) (λ p. fits_within sig n p t) false
+  fits-enough (suc m) (suc n) s t h k = ap (λ b. same_sort s t || b) (at_parent-same (parent sig s) (λ p. fits_within sig.parents m p t) (λ p. fits_within sig.parents n p t) false
       (λ p e. let l = parent-lower s p e in fits-enough m n p t (omega arith) (omega arith)))
 
-  root-enough : (m n : ℕ) (s : SortId) → s.0 ≤ m → s.0 ≤ n → root_within sig m s ≡ root_within sig n s
+  root-enough : (m n : ℕ) (s : SortId) → s.0 ≤ m → s.0 ≤ n → root_within sig.parents m s ≡ root_within sig.parents n s
   root-enough zero zero s h k = refl
   root-enough zero (suc n) s h k = rw (first_alone s (parent sig s) h refl) refl
   root-enough (suc m) zero s h k = rw (first_alone s (parent sig s) k refl) refl
-  root-enough (suc m) (suc n) s h k = at_parent-same (parent sig s) (root_within sig m) (root_within sig n) s
+  root-enough (suc m) (suc n) s h k = at_parent-same (parent sig s) (root_within sig.parents m) (root_within sig.parents n) s
       (λ p e. let l = parent-lower s p e in root-enough m n p (omega arith) (omega arith))
 
   -- s fits t exactly where s is t or the parent of s fits t
   pub fits-step : (s t : SortId) → fits sig s t ≡ (same_sort s t || at_parent (parent sig s) (λ p. fits sig p t) false)
-  unfolding fits
-  fits-step s t = fits-enough s.0 (suc s.0) s t (omega arith) (omega arith) ∙ ap (λ b. same_sort s t || b) (at_parent-same (parent sig s) (λ p. fits_within sig s.0 p t) (λ p. fits_within sig p.0 p t) false
+  unfolding fits fits_in
+  fits-step s t = fits-enough s.0 (suc s.0) s t (omega arith) (omega arith) ∙ ap (λ b. same_sort s t || b) (at_parent-same (parent sig s) (λ p. fits_within sig.parents s.0 p t) (λ p. fits_within sig.parents p.0 p t) false
       (λ p e. let l = parent-lower s p e in fits-enough s.0 p.0 p t (omega arith) (omega arith)))
 
   -- the root of a sort is that of its parent, and a sort without a parent is its own
   pub root-step : (s : SortId) → root sig s ≡ at_parent (parent sig s) (root sig) s
-  unfolding root
-  root-step s = root-enough s.0 (suc s.0) s (omega arith) (omega arith) ∙ at_parent-same (parent sig s) (root_within sig s.0) (λ p. root_within sig p.0 p) s
+  unfolding root root_in
+  root-step s = root-enough s.0 (suc s.0) s (omega arith) (omega arith) ∙ at_parent-same (parent sig s) (root_within sig.parents s.0) (λ p. root_within sig.parents p.0 p) s
       (λ p e. let l = parent-lower s p e in root-enough s.0 p.0 p (omega arith) (omega arith))
 
   -- the two ways in which a sort fits another
@@ -142,11 +142,11 @@ module _ (sig : Signature) where
   ]
 
   pub akin-is : (s t : SortId) → akin sig s t ≡ true → root sig s ≡ root sig t
-  unfolding akin
+  unfolding akin akin_in root
   akin-is s t e = same_sort-is (root sig s) (root sig t) e
 
   pub akin-of : (s t : SortId) → root sig s ≡ root sig t → akin sig s t ≡ true
-  unfolding akin
+  unfolding akin akin_in root
   akin-of s t e = ap (λ (x : SortId). same_sort (root sig s) x) (sym e) ∙ same_sort-same (root sig s)
 
   pub fits-akin : (s t : SortId) → fits sig s t ≡ true → akin sig s t ≡ true

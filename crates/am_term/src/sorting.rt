@@ -25,7 +25,7 @@ pub fn fits(sig: &Signature, s: SortId, t: SortId) -> bool
 }
 
 /// Whether two sorts stand below one root. Takes no memory.
-#[tactic(auto, unfolding(crate::specs::Sorts::akin))]
+#[tactic(auto, unfolding(crate::specs::Sorts::akin, crate::specs::Sorts::akin_in, crate::specs::Sorts::root))]
 pub fn akin(sig: &Signature, s: SortId, t: SortId) -> bool
     ensures { result ≡ is_akin sig.now s t }
 {
