@@ -1,2 +1,4 @@
 pub mod Among
 pub mod Equations
+pub mod Known
+pub mod Larger
