@@ -14,6 +14,8 @@ use Rattle.am_term.specs.declared.term.Formula.TheVariants as formula
 use Rattle.am_term.specs.Fold.{fold-Var, fold-In, fold-App}
 use Rattle.am_term.specs.FoldFormula as term_fold
 use Rattle.am_term.specs.Names.{is_name}
+use Rattle.am_term.specs.declared.signature.Signature.{Signature}
+use Rattle.am_term.specs.Sorting.{is_sorted_atom}
 use Rattle.am_syntax.specs.declared.scope.Flaw.{Flaw}
 use Rattle.am_syntax.specs.declared.written.Words.{Words}
 use Rattle.am_syntax.specs.declared.written.WrittenTerm.{WrittenTerm}
@@ -29,6 +31,7 @@ use Rattle.am_syntax.specs.Forms.{is_some_list, spellable_step, is_spellable, is
 use Rattle.am_syntax.specs.Scopes.{Scope, standing_of, symbol_of, result_of, args_of, alone_sort}
 use Rattle.am_syntax.specs.Flaws.{unknown_step, has_unknown_name, sort_at, written_sort, written_sorts, some_misfit, is_relation, is_lone_relation, parts_terms, parts_flaws, bad_sort_step, has_bad_sort, is_miscounted, is_lone_function, bad_arity_step, has_bad_arity, is_unbound, unbound_step, has_unbound, atom_has, some_atom_step, formula_has, quantifier_step, has_quantifier}
 use Rattle.am_syntax.specs.Meaning.{named_symbol, alone_term, meaning_step, term_meaning, atom_meaning, formula_meaning_step, formula_meaning}
+use Rattle.am_syntax.specs.Sorted.{sorted_step, is_sorted_formula}
 use Rattle.am_syntax.specs.Naming.{Naming, applied, naming_step, named_term, named_atom, named_formula_step, named_formula}
 use Rattle.am_syntax.proofs.Among.{any-map}
 
@@ -155,6 +158,10 @@ module _ (s : Scope) (flaw : Flaw) where
   unfolding formula_has
   formula_has-Iff f g = fold-Iff Bool (some_atom_step (atom_has s flaw)) f g
 
+  pub formula_has-Quantified : formula_has s flaw Quantified ≡ false
+  unfolding formula_has
+  formula_has-Quantified = fold-Quantified Bool (some_atom_step (atom_has s flaw))
+
 -- ---- quantifiers
 pub has_quantifier-Atom : (a : WrittenAtom) → has_quantifier (Atomic a) ≡ false
 unfolding has_quantifier
@@ -216,6 +223,10 @@ module _ (words : Words) where
   unfolding is_spellable_formula
   is_spellable_formula-Iff f g = fold-Iff Bool (spellable_formula_step words) f g
 
+  pub is_spellable_formula-Quantified : is_spellable_formula words Quantified ≡ true
+  unfolding is_spellable_formula
+  is_spellable_formula-Quantified = fold-Quantified Bool (spellable_formula_step words)
+
 -- ---- the meaning of a formula
 module _ (s : Scope) where
   pub formula_meaning-Atom : (a : WrittenAtom) → formula_meaning s (Atomic a) ≡ formula.Atom (atom_meaning s a)
@@ -242,6 +253,10 @@ module _ (s : Scope) where
   unfolding formula_meaning
   formula_meaning-Iff f g = fold-Iff Formula (formula_meaning_step s) f g
 
+  pub formula_meaning-Quantified : formula_meaning s Quantified ≡ formula.And []
+  unfolding formula_meaning
+  formula_meaning-Quantified = fold-Quantified Formula (formula_meaning_step s)
+
 -- ---- the names of a formula
 module _ (n : Naming) where
   pub named_formula-Atom : (a : TermAtom) → named_formula n (formula.Atom a) ≡ Atomic (named_atom n a)
@@ -267,3 +282,29 @@ module _ (n : Naming) where
   pub named_formula-Iff : (f g : Formula) → named_formula n (formula.Iff f g) ≡ Iff (named_formula n f) (named_formula n g)
   unfolding named_formula
   named_formula-Iff f g = term_fold.fold-Iff WrittenFormula (named_formula_step n) f g
+
+-- ---- formulas that are well sorted
+module _ (sig : Signature) (ins : List SortId) where
+  pub is_sorted_formula-Atom : (a : TermAtom) → is_sorted_formula sig ins (formula.Atom a) ≡ is_sorted_atom sig ins a
+  unfolding is_sorted_formula
+  is_sorted_formula-Atom a = term_fold.fold-Atom Bool (sorted_step sig ins) a
+
+  pub is_sorted_formula-Not : (f : Formula) → is_sorted_formula sig ins (formula.Not f) ≡ is_sorted_formula sig ins f
+  unfolding is_sorted_formula
+  is_sorted_formula-Not f = term_fold.fold-Not Bool (sorted_step sig ins) f
+
+  pub is_sorted_formula-And : (fs : List Formula) → is_sorted_formula sig ins (formula.And fs) ≡ list_all (is_sorted_formula sig ins) fs
+  unfolding is_sorted_formula
+  is_sorted_formula-And fs = term_fold.fold-And Bool (sorted_step sig ins) fs ∙ list_all-map (λ b. b) (is_sorted_formula sig ins) fs
+
+  pub is_sorted_formula-Or : (fs : List Formula) → is_sorted_formula sig ins (formula.Or fs) ≡ list_all (is_sorted_formula sig ins) fs
+  unfolding is_sorted_formula
+  is_sorted_formula-Or fs = term_fold.fold-Or Bool (sorted_step sig ins) fs ∙ list_all-map (λ b. b) (is_sorted_formula sig ins) fs
+
+  pub is_sorted_formula-Implies : (f g : Formula) → is_sorted_formula sig ins (formula.Implies f g) ≡ (is_sorted_formula sig ins f && is_sorted_formula sig ins g)
+  unfolding is_sorted_formula
+  is_sorted_formula-Implies f g = term_fold.fold-Implies Bool (sorted_step sig ins) f g
+
+  pub is_sorted_formula-Iff : (f g : Formula) → is_sorted_formula sig ins (formula.Iff f g) ≡ (is_sorted_formula sig ins f && is_sorted_formula sig ins g)
+  unfolding is_sorted_formula
+  is_sorted_formula-Iff f g = term_fold.fold-Iff Bool (sorted_step sig ins) f g

@@ -2,3 +2,5 @@ pub mod Among
 pub mod Equations
 pub mod Known
 pub mod Larger
+pub mod LargerFormula
+pub mod WellSorted
