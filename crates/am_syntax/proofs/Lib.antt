@@ -4,3 +4,5 @@ pub mod Known
 pub mod Larger
 pub mod LargerFormula
 pub mod WellSorted
+pub mod WellSortedFormula
+pub mod WrittenBack
