@@ -31,6 +31,7 @@ use Rattle.am_syntax.specs.Forms.{is_some_list, spellable_step, is_spellable, is
 use Rattle.am_syntax.specs.Scopes.{Scope, standing_of, symbol_of, result_of, args_of, alone_sort}
 use Rattle.am_syntax.specs.Flaws.{unknown_step, has_unknown_name, sort_at, written_sort, written_sorts, some_misfit, is_relation, is_lone_relation, parts_terms, parts_flaws, bad_sort_step, has_bad_sort, is_miscounted, is_lone_function, bad_arity_step, has_bad_arity, is_unbound, unbound_step, has_unbound, atom_has, some_atom_step, formula_has, quantifier_step, has_quantifier}
 use Rattle.am_syntax.specs.Meaning.{named_symbol, alone_term, meaning_step, term_meaning, atom_meaning, formula_meaning_step, formula_meaning}
+use Rattle.am_syntax.specs.Occurring.{occurs_in_atom, occurs_in_step, occurs_in_formula}
 use Rattle.am_syntax.specs.Sorted.{sorted_step, is_sorted_formula}
 use Rattle.am_syntax.specs.Naming.{Naming, applied, naming_step, named_term, named_atom, named_formula_step, named_formula}
 use Rattle.am_syntax.proofs.Among.{any-map}
@@ -308,3 +309,29 @@ module _ (sig : Signature) (ins : List SortId) where
   pub is_sorted_formula-Iff : (f g : Formula) → is_sorted_formula sig ins (formula.Iff f g) ≡ (is_sorted_formula sig ins f && is_sorted_formula sig ins g)
   unfolding is_sorted_formula
   is_sorted_formula-Iff f g = term_fold.fold-Iff Bool (sorted_step sig ins) f g
+
+-- ---- variables of formulas
+module _ (n : ℕ) (s : SortId) where
+  pub occurs_in_formula-Atom : (a : TermAtom) → occurs_in_formula n s (formula.Atom a) ≡ occurs_in_atom n s a
+  unfolding occurs_in_formula
+  occurs_in_formula-Atom a = term_fold.fold-Atom Bool (occurs_in_step n s) a
+
+  pub occurs_in_formula-Not : (f : Formula) → occurs_in_formula n s (formula.Not f) ≡ occurs_in_formula n s f
+  unfolding occurs_in_formula
+  occurs_in_formula-Not f = term_fold.fold-Not Bool (occurs_in_step n s) f
+
+  pub occurs_in_formula-And : (fs : List Formula) → occurs_in_formula n s (formula.And fs) ≡ list_any (occurs_in_formula n s) fs
+  unfolding occurs_in_formula
+  occurs_in_formula-And fs = term_fold.fold-And Bool (occurs_in_step n s) fs ∙ any-map (λ b. b) (occurs_in_formula n s) fs
+
+  pub occurs_in_formula-Or : (fs : List Formula) → occurs_in_formula n s (formula.Or fs) ≡ list_any (occurs_in_formula n s) fs
+  unfolding occurs_in_formula
+  occurs_in_formula-Or fs = term_fold.fold-Or Bool (occurs_in_step n s) fs ∙ any-map (λ b. b) (occurs_in_formula n s) fs
+
+  pub occurs_in_formula-Implies : (f g : Formula) → occurs_in_formula n s (formula.Implies f g) ≡ (occurs_in_formula n s f || occurs_in_formula n s g)
+  unfolding occurs_in_formula
+  occurs_in_formula-Implies f g = term_fold.fold-Implies Bool (occurs_in_step n s) f g
+
+  pub occurs_in_formula-Iff : (f g : Formula) → occurs_in_formula n s (formula.Iff f g) ≡ (occurs_in_formula n s f || occurs_in_formula n s g)
+  unfolding occurs_in_formula
+  occurs_in_formula-Iff f g = term_fold.fold-Iff Bool (occurs_in_step n s) f g

@@ -1,5 +1,6 @@
 pub mod Among
 pub mod Equations
+pub mod FromScope
 pub mod Known
 pub mod Larger
 pub mod LargerFormula

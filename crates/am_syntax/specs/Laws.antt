@@ -18,6 +18,7 @@ use Rattle.am_syntax.specs.Flaws.{has_unknown_name, has_unbound, written_sort, t
 use Rattle.am_syntax.specs.Forms.{is_spellable, is_spellable_atom, is_spellable_formula}
 use Rattle.am_syntax.specs.Meaning.{term_meaning, atom_meaning, formula_meaning}
 use Rattle.am_syntax.specs.Naming.{Naming, named_term, named_atom, named_formula}
+use Rattle.am_syntax.specs.Occurring.{occurs_in_atom, occurs_in_formula}
 use Rattle.am_syntax.specs.Sorted.{is_sorted_formula}
 
 -- ---- what has no flaw is well sorted
@@ -119,6 +120,18 @@ FormulasAreKept = (s r : Scope) (f : WrittenFormula) → Extends s r → formula
 
 -- ---- the variables of a meaning
 
--- each variable that occurs in what a term means is what some name of the scope stands for
-abbrev pub VariablesAreBound : Type 0
-VariablesAreBound = (s : Scope) (t : WrittenTerm) (n : ℕ) (sort : SortId) → occurs n sort (term_meaning s t) ≡ true → (w : List ℕ) × (standing_of w s.bound ≡ Some (Variable n sort))
+-- some name of the scope stands for the variable n of this sort
+abbrev pub IsBoundIn : Scope → ℕ → SortId → Type 0
+IsBoundIn s n sort = (w : List ℕ) × (standing_of w s.bound ≡ Some (Variable n sort))
+
+-- some name of the scope stands for each variable that occurs in what a term means
+abbrev pub TermVariablesAreBound : Type 0
+TermVariablesAreBound = (s : Scope) (t : WrittenTerm) (n : ℕ) (sort : SortId) → occurs n sort (term_meaning s t) ≡ true → IsBoundIn s n sort
+
+-- so it is for an atom
+abbrev pub AtomVariablesAreBound : Type 0
+AtomVariablesAreBound = (s : Scope) (a : WrittenAtom) (n : ℕ) (sort : SortId) → occurs_in_atom n sort (atom_meaning s a) ≡ true → IsBoundIn s n sort
+
+-- so it is for a formula
+abbrev pub FormulaVariablesAreBound : Type 0
+FormulaVariablesAreBound = (s : Scope) (f : WrittenFormula) (n : ℕ) (sort : SortId) → occurs_in_formula n sort (formula_meaning s f) ≡ true → IsBoundIn s n sort
