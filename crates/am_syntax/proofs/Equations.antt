@@ -1,5 +1,5 @@
 -- What each fold over terms and formulas gives at each kind of term and formula.
-use Rattle.std.proofs.Common.{◌≡◌, ◌∙◌, ◌&&◌, ◌||◌, ℕ, Bool, true, false, refl, ap, List, [], ◌∷◌, map, length, Option}
+use Rattle.std.proofs.Common.{◌≡◌, ◌∙◌, ◌&&◌, ◌||◌, ℕ, Bool, true, false, refl, ap, List, [], ◌∷◌, map, length}
 use Rattle.std.specs.Prelude.{slice_index_or, is_none}
 use Rattle.std.specs.List.{list_any, list_all}
 use Rattle.std.proofs.lemmas.List.{length-map}
@@ -20,7 +20,6 @@ use Rattle.am_syntax.specs.declared.scope.Flaw.{Flaw}
 use Rattle.am_syntax.specs.declared.written.Words.{Words}
 use Rattle.am_syntax.specs.declared.written.WrittenTerm.{WrittenTerm}
 use Rattle.am_syntax.specs.declared.written.WrittenTerm.TheVariants.{Alone, Headed, outs-Alone, outs-Headed}
-use Rattle.am_syntax.specs.declared.written.WrittenTerm.TheFolds.{fold-WrittenTerm}
 use Rattle.am_syntax.specs.declared.written.WrittenAtom.{WrittenAtom}
 use Rattle.am_syntax.specs.declared.written.WrittenFormula.{WrittenFormula}
 use Rattle.am_syntax.specs.declared.written.WrittenFormula.TheVariants.{Atom as Atomic, Not, And, Or, Implies, Iff, Quantified}

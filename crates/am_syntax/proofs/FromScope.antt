@@ -1,14 +1,12 @@
 -- The variables of what is meant are those that names of the scope stand for.
-use Rattle.std.proofs.Common.{◌≡◌, ◌==◌, ◌∙◌, ◌&&◌, ◌||◌, ⊎_elim, inl, inr, ℕ, Bool, true, false, refl, sym, ap, true≢false, List, [], ◌∷◌, map, Option, Some, None, arith}
+use Rattle.std.proofs.Common.{◌≡◌, ◌==◌, ◌∙◌, ◌&&◌, ◌||◌, ℕ, Bool, true, false, refl, sym, ap, true≢false, List, [], ◌∷◌, map, Option, Some, None, arith}
 use Rattle.std.specs.List.{list_any}
 use Rattle.std.proofs.lemmas.Bool.Decides.{nat_tests}
 use Rattle.am_term.specs.declared.id.SortId.{SortId}
-use Rattle.am_term.specs.declared.term.Term.TheVariants.{Var, In, App}
-use Rattle.am_term.specs.declared.term.Formula.TheVariants as formula
 use Rattle.am_term.specs.Sorts.{same_sort}
 use Rattle.am_term.specs.Variables.{occurs, occurs-Var, occurs-In, occurs-App}
 use Rattle.am_term.proofs.Forest.{same_sort-is}
-use Rattle.am_term.proofs.Tests.{and_left, and_right, or_cases}
+use Rattle.am_term.proofs.Tests.{and_left, and_right}
 use Rattle.am_syntax.specs.declared.scope.Standing.{Standing}
 use Rattle.am_syntax.specs.declared.scope.Standing.TheVariants.{Variable, Input, Barred}
 use Rattle.am_syntax.specs.declared.written.WrittenTerm.{WrittenTerm}
@@ -20,7 +18,7 @@ use Rattle.am_syntax.specs.declared.written.WrittenFormula.TheVariants.{Atom as 
 use Rattle.am_syntax.specs.Induct.{written_term_induct, written_terms_induct}
 use Rattle.am_syntax.specs.InductFormula.{written_formula_induct}
 use Rattle.am_syntax.specs.Scopes.{Scope, standing_of}
-use Rattle.am_syntax.specs.Meaning.{named_symbol, standing_term, alone_term, term_meaning, atom_meaning, formula_meaning}
+use Rattle.am_syntax.specs.Meaning.{named_symbol, alone_term, term_meaning, atom_meaning, formula_meaning}
 use Rattle.am_syntax.specs.Occurring.{occurs_in_atom, occurs_in_formula}
 use Rattle.am_syntax.specs.Laws.{IsBoundIn}
 use Rattle.am_syntax.proofs.Equations.{term_meaning-Alone, term_meaning-Headed, formula_meaning-Atom, formula_meaning-Not, formula_meaning-And, formula_meaning-Or, formula_meaning-Implies, formula_meaning-Iff, formula_meaning-Quantified, occurs_in_formula-Atom, occurs_in_formula-Not, occurs_in_formula-And, occurs_in_formula-Or, occurs_in_formula-Implies, occurs_in_formula-Iff}

@@ -1,7 +1,6 @@
 -- Names of symbols that are there: their numbers and the symbols themselves.
-use Rattle.std.proofs.Common.{◌≡◌, ◌∙◌, ℕ, true, false, refl, sym, ap, true≢false, List, Option, Some, None, slice_get}
+use Rattle.std.proofs.Common.{◌≡◌, ◌∙◌, ℕ, false, refl, ap, true≢false, List, Option, Some, None, slice_get}
 use Rattle.std.specs.Prelude.{is_none}
-use Rattle.am_term.specs.declared.id.SymId.{SymId}
 use Rattle.am_syntax.specs.Positions.{position_of}
 use Rattle.am_syntax.specs.Scopes.{Scope, Profile, symbol_at, symbol_of}
 use Rattle.am_syntax.specs.Meaning.{symbol_id, named_symbol}

@@ -1,5 +1,5 @@
 -- In a scope that extends another, what has its names there is the same.
-use Rattle.std.proofs.Common.{◌≡◌, ◌∙◌, ◌||◌, ℕ, Bool, true, false, not, refl, sym, ap, List, [], ◌∷◌, map, Option, Some, None}
+use Rattle.std.proofs.Common.{◌≡◌, ◌∙◌, ◌||◌, ℕ, false, not, refl, sym, ap, List, [], ◌∷◌, map, Option, Some, None}
 use Rattle.std.specs.Prelude.{is_none, length}
 use Rattle.std.specs.List.{list_any}
 use Rattle.am_term.specs.declared.id.SortId.{SortId}

@@ -1,5 +1,5 @@
 -- In a scope that extends another, atoms and formulas that have their names there are the same.
-use Rattle.std.proofs.Common.{◌≡◌, ◌∙◌, ◌||◌, Bool, true, false, not, refl, sym, ap, List, [], ◌∷◌, map, Option, Some, None, ℕ}
+use Rattle.std.proofs.Common.{◌≡◌, ◌∙◌, ◌||◌, false, not, refl, sym, ap, List, [], ◌∷◌, map, Option, Some, None, ℕ}
 use Rattle.std.specs.Prelude.{is_none, length}
 use Rattle.std.specs.List.{list_any}
 use Rattle.am_term.specs.declared.id.SortId.{SortId}
@@ -15,7 +15,7 @@ use Rattle.am_syntax.specs.declared.written.WrittenFormula.TheVariants.{Atom as 
 use Rattle.am_syntax.specs.InductFormula.{written_formula_induct}
 use Rattle.am_syntax.specs.Scopes.{Scope, symbol_of, args_of}
 use Rattle.am_syntax.specs.Flaws.{has_unknown_name, has_unbound, term_has, written_sort, written_sorts, some_misfit, is_function, is_miscounted, are_apart, relation_has, equation_has, atom_has, formula_has}
-use Rattle.am_syntax.specs.Meaning.{named_symbol, term_meaning, atom_meaning, formula_meaning}
+use Rattle.am_syntax.specs.Meaning.{named_symbol, term_meaning, formula_meaning}
 use Rattle.am_syntax.specs.Laws.{Extends, IsSameIn, IsSameAtomIn, IsSameFormulaIn}
 use Rattle.am_syntax.proofs.Among.{none_left, none_right}
 use Rattle.am_syntax.proofs.Equations.{formula_has-Atom, formula_has-Not, formula_has-And, formula_has-Or, formula_has-Implies, formula_has-Iff, formula_has-Quantified, formula_meaning-Atom, formula_meaning-Not, formula_meaning-And, formula_meaning-Or, formula_meaning-Implies, formula_meaning-Iff, formula_meaning-Quantified}
@@ -121,7 +121,7 @@ module _ (s r : Scope) (x : Extends s r) where
   both-kept : (f g : WrittenFormula) → FormulaKept f → FormulaKept g → (formula_has s UnknownName f || formula_has s UnknownName g) ≡ false → (formula_has s Unbound f || formula_has s Unbound g) ≡ false → IsSameFormulaIn s r f × IsSameFormulaIn s r g
   both-kept f g h k e u = (
     h (none_left (formula_has s UnknownName f) (formula_has s UnknownName g) e) (none_left (formula_has s Unbound f) (formula_has s Unbound g) u),
-    k (none_right (formula_has s UnknownName f) (formula_has s UnknownName g) e) (none_right (formula_has s Unbound f) (formula_has s Unbound g) u)
+    k (none_right (formula_has s UnknownName f) (formula_has s UnknownName g) e) (none_right (formula_has s Unbound f) (formula_has s Unbound g) u),
   )
 
   both-flaws : (f g : WrittenFormula) → IsSameFormulaIn s r f × IsSameFormulaIn s r g → (flaw : Flaw) → (formula_has r flaw f || formula_has r flaw g) ≡ (formula_has s flaw f || formula_has s flaw g)

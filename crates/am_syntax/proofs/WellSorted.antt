@@ -1,5 +1,5 @@
 -- Terms without a flaw have a sort, and what they mean has the same sort.
-use Rattle.std.proofs.Common.{◌≡◌, ◌==◌, ◌∙◌, ◌||◌, ◌<◌, ℕ, Bool, true, false, not, refl, sym, ap, true≢false, List, [], ◌∷◌, map, Option, Some, None, slice_get, nat_lt, if◌then◌else◌, arith}
+use Rattle.std.proofs.Common.{◌≡◌, ◌==◌, ◌∙◌, ◌||◌, ◌<◌, ℕ, true, false, not, refl, sym, ap, true≢false, List, [], ◌∷◌, map, Option, Some, None, slice_get, nat_lt, if◌then◌else◌, arith}
 use Rattle.std.specs.Prelude.{is_none, length, option_map}
 use Rattle.std.specs.List.{list_any}
 use Rattle.std.proofs.lemmas.Bool.Decides.{nat_tests}
@@ -7,7 +7,6 @@ use Rattle.std.proofs.lemmas.Option.{slice_get-map}
 use Rattle.am_term.specs.declared.id.SortId.{SortId}
 use Rattle.am_term.specs.declared.symbol.Symbol.{Symbol}
 use Rattle.am_term.specs.declared.signature.Signature.{Signature}
-use Rattle.am_term.specs.declared.term.Term.TheVariants.{Var, In, App}
 use Rattle.am_term.specs.Sorting.{fits_place, fit_places, result_at, sort_of, sorts_of, sort_of-Var, sort_of-In, sort_of-App}
 use Rattle.am_term.specs.Sorts.{fits, fits_in, akin, akin_in}
 use Rattle.am_term.proofs.Tests.{and_both, false_not}
@@ -19,7 +18,7 @@ use Rattle.am_syntax.specs.declared.written.WrittenTerm.{WrittenTerm}
 use Rattle.am_syntax.specs.declared.written.WrittenTerm.TheVariants.{Alone, Headed}
 use Rattle.am_syntax.specs.Induct.{written_term_induct, written_terms_induct}
 use Rattle.am_syntax.specs.Scopes.{Scope, Profile, profile, standing_of, symbol_of, result_of, args_of, alone_sort_by}
-use Rattle.am_syntax.specs.Flaws.{has_unknown_name, has_bad_sort, has_bad_arity, has_unbound, term_has, written_sort, written_sorts, misfits, some_misfit, is_relation, is_lone_relation, is_miscounted, is_lone_function, is_unbound}
+use Rattle.am_syntax.specs.Flaws.{has_unknown_name, has_bad_sort, has_bad_arity, term_has, written_sort, written_sorts, misfits, some_misfit, is_relation, is_lone_relation, is_miscounted, is_lone_function, is_unbound}
 use Rattle.am_syntax.specs.Meaning.{named_symbol, alone_term, term_meaning}
 use Rattle.am_syntax.specs.Laws.{MatchesSignature, IsFlawless, IsWellSorted}
 use Rattle.am_syntax.proofs.Among.{none_left, none_right}

@@ -1,5 +1,5 @@
 -- What atoms and formulas without a flaw mean is well sorted.
-use Rattle.std.proofs.Common.{◌≡◌, ◌∙◌, ◌&&◌, ◌||◌, ℕ, Bool, true, false, refl, sym, ap, true≢false, List, [], ◌∷◌, map, Option, Some, None, slice_get}
+use Rattle.std.proofs.Common.{◌≡◌, ◌∙◌, ◌&&◌, ◌||◌, ℕ, true, false, refl, sym, ap, true≢false, List, [], ◌∷◌, map, Option, Some, None}
 use Rattle.std.specs.Prelude.{is_none, length}
 use Rattle.std.specs.List.{list_any, list_all}
 use Rattle.am_term.specs.declared.id.SortId.{SortId}
@@ -8,16 +8,16 @@ use Rattle.am_term.specs.Sorting.{fit_places, sort_of, sorts_of, are_akin, relat
 use Rattle.am_term.specs.Sorts.{akin_in}
 use Rattle.am_term.proofs.Tests.{and_both, false_not}
 use Rattle.am_syntax.specs.declared.scope.Flaw.{Flaw}
-use Rattle.am_syntax.specs.declared.scope.Flaw.TheVariants.{UnknownName, BadSort, BadArity, Unbound}
+use Rattle.am_syntax.specs.declared.scope.Flaw.TheVariants.{UnknownName, BadSort, BadArity}
 use Rattle.am_syntax.specs.declared.written.WrittenTerm.{WrittenTerm}
 use Rattle.am_syntax.specs.declared.written.WrittenAtom.{WrittenAtom}
 use Rattle.am_syntax.specs.declared.written.WrittenAtom.TheVariants.{Equation, Relation}
 use Rattle.am_syntax.specs.declared.written.WrittenFormula.{WrittenFormula}
 use Rattle.am_syntax.specs.declared.written.WrittenFormula.TheVariants.{Atom as Atomic, Not, And, Or, Implies, Iff, Quantified}
 use Rattle.am_syntax.specs.InductFormula.{written_formula_induct}
-use Rattle.am_syntax.specs.Scopes.{Scope, Profile, symbol_of, args_of}
-use Rattle.am_syntax.specs.Flaws.{has_unknown_name, term_has, written_sort, written_sorts, some_misfit, is_function, is_miscounted, are_apart, relation_has, equation_has, atom_has, formula_has, has_quantifier}
-use Rattle.am_syntax.specs.Meaning.{named_symbol, term_meaning, atom_meaning, formula_meaning}
+use Rattle.am_syntax.specs.Scopes.{Scope, symbol_of, args_of}
+use Rattle.am_syntax.specs.Flaws.{term_has, written_sort, written_sorts, some_misfit, is_function, is_miscounted, are_apart, relation_has, equation_has, formula_has, has_quantifier}
+use Rattle.am_syntax.specs.Meaning.{term_meaning, atom_meaning, formula_meaning}
 use Rattle.am_syntax.specs.Sorted.{is_sorted_formula}
 use Rattle.am_syntax.specs.Laws.{MatchesSignature, IsFlawlessAtom, IsFlawlessFormula, IsWellSorted}
 use Rattle.am_syntax.proofs.Among.{none_left, none_right}

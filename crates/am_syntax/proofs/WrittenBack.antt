@@ -1,10 +1,8 @@
 -- What a term, an atom or a formula means is written as the same again.
-use Rattle.std.proofs.Common.{◌≡◌, ◌∙◌, ◌&&◌, ◌||◌, ℕ, Bool, true, false, refl, sym, ap, true≢false, List, [], ◌∷◌, map, Option, Some, None}
+use Rattle.std.proofs.Common.{◌≡◌, ◌∙◌, ◌&&◌, ◌||◌, ℕ, true, false, refl, sym, ap, true≢false, List, [], ◌∷◌, map, Option, Some, None}
 use Rattle.std.specs.Prelude.{is_none, slice_index_or}
 use Rattle.std.specs.List.{list_any, list_all}
 use Rattle.am_term.specs.Names.{is_name}
-use Rattle.am_term.specs.declared.term.Term.TheVariants.{Var, In, App}
-use Rattle.am_term.specs.declared.term.Formula.TheVariants as formula
 use Rattle.am_term.proofs.Tests.{and_left, and_right}
 use Rattle.am_syntax.specs.declared.scope.Flaw.TheVariants.{UnknownName, Unbound}
 use Rattle.am_syntax.specs.declared.scope.Standing.{Standing}
@@ -124,7 +122,7 @@ module _ (s : Scope) (n : Naming) (words : Words) (b : NamesBack s n) where
   both-back : (f g : WrittenFormula) → FormulaBack f → FormulaBack g → (is_spellable_formula words f && is_spellable_formula words g) ≡ true → (formula_has s UnknownName f || formula_has s UnknownName g) ≡ false → (formula_has s Unbound f || formula_has s Unbound g) ≡ false → (has_quantifier f || has_quantifier g) ≡ false → (named_formula n (formula_meaning s f) ≡ f) × (named_formula n (formula_meaning s g) ≡ g)
   both-back f g k l p e u q = (
     k (and_left (is_spellable_formula words f) (is_spellable_formula words g) p) (none_left (formula_has s UnknownName f) (formula_has s UnknownName g) e) (none_left (formula_has s Unbound f) (formula_has s Unbound g) u) (none_left (has_quantifier f) (has_quantifier g) q),
-    l (and_right (is_spellable_formula words f) (is_spellable_formula words g) p) (none_right (formula_has s UnknownName f) (formula_has s UnknownName g) e) (none_right (formula_has s Unbound f) (formula_has s Unbound g) u) (none_right (has_quantifier f) (has_quantifier g) q)
+    l (and_right (is_spellable_formula words f) (is_spellable_formula words g) p) (none_right (formula_has s UnknownName f) (formula_has s UnknownName g) e) (none_right (formula_has s Unbound f) (formula_has s Unbound g) u) (none_right (has_quantifier f) (has_quantifier g) q),
   )
 
   back-Implies : (f g : WrittenFormula) → FormulaBack f → FormulaBack g → FormulaBack (Implies f g)

@@ -1,12 +1,12 @@
 -- What holds of the flaws, the meaning and the names of all written terms, atoms and formulas.
-use Rattle.std.specs.Prelude.{◌≡◌, ◌<◌, ℕ, Bool, true, false, Option, Some, List, [], map, length, slice_get, slice_index_or}
+use Rattle.std.specs.Prelude.{◌≡◌, ◌<◌, ℕ, true, false, Some, List, [], map, length, slice_get, slice_index_or}
 use Rattle.am_term.specs.declared.id.SortId.{SortId}
 use Rattle.am_term.specs.declared.signature.Signature.{Signature}
 use Rattle.am_term.specs.Sorting.{sort_of, is_sorted_atom}
 use Rattle.am_term.specs.Sorts.{fits_in, akin_in}
 use Rattle.am_term.specs.Variables.{occurs}
 use Rattle.am_syntax.specs.declared.scope.Flaw.{Flaw}
-use Rattle.am_syntax.specs.declared.scope.Flaw.TheVariants.{UnknownName, BadSort, BadArity, Unbound}
+use Rattle.am_syntax.specs.declared.scope.Flaw.TheVariants.{UnknownName, Unbound}
 use Rattle.am_syntax.specs.declared.scope.Standing.TheVariants.{Variable, Input}
 use Rattle.am_syntax.specs.declared.written.Words.{Words}
 use Rattle.am_syntax.specs.declared.written.WrittenTerm.{WrittenTerm}

@@ -1,5 +1,5 @@
 -- Which variables occur in an atom or a formula. A variable is its number and its sort.
-use Rattle.std.specs.Prelude.{◌||◌, ℕ, Bool, List}
+use Rattle.std.specs.Prelude.{◌||◌, ℕ, Bool}
 use Rattle.std.specs.List.{list_any}
 use Rattle.am_term.specs.declared.id.SortId.{SortId}
 use Rattle.am_term.specs.declared.term.Atom.{Atom}
