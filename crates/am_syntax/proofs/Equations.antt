@@ -35,7 +35,7 @@ use Rattle.am_syntax.specs.Sorted.{sorted_step, is_sorted_formula}
 use Rattle.am_syntax.specs.Naming.{Naming, applied, naming_step, named_term, named_atom, named_formula_step, named_formula}
 use Rattle.am_syntax.proofs.Among.{any-map}
 
--- ---- which sort a written term has, and how its parts stand in a step
+-- ---- the sort of a term
 module _ (s : Scope) where
   pub written_sort-Alone : (w : List ℕ) → written_sort s (Alone w) ≡ alone_sort s w
   unfolding written_sort

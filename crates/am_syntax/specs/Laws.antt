@@ -32,12 +32,15 @@ pub record MatchesSignature (s : Scope) (sig : Signature) (ins : List SortId) : 
   pub variables : (w : List ℕ) (n : ℕ) (sort : SortId) → standing_of w s.bound ≡ Some (Variable n sort) → sort.0 < length sig.sorts
   pub inputs : (w : List ℕ) (k : ℕ) (sort : SortId) → standing_of w s.bound ≡ Some (Input k sort) → slice_get ins k ≡ Some sort
 
+-- a term with none of the four flaws
 abbrev pub IsFlawless : Scope → WrittenTerm → Type 0
 IsFlawless s t = (flaw : Flaw) → term_has s flaw t ≡ false
 
+-- an atom with none of them
 abbrev pub IsFlawlessAtom : Scope → WrittenAtom → Type 0
 IsFlawlessAtom s a = (flaw : Flaw) → atom_has s flaw a ≡ false
 
+-- a formula with none of them
 abbrev pub IsFlawlessFormula : Scope → WrittenFormula → Type 0
 IsFlawlessFormula s f = (flaw : Flaw) → formula_has s flaw f ≡ false
 

@@ -1,15 +1,16 @@
 ghost use Rattle.am_syntax.specs.Laws.{AtomVariablesAreBound, AtomsAreKept, AtomsAreWrittenBack, FlawlessAtomsAreSorted, FlawlessFormulasAreSorted, FlawlessTermsAreSorted, FormulaVariablesAreBound, FormulasAreKept, FormulasAreWrittenBack, TermVariablesAreBound, TermsAreKept, TermsAreWrittenBack};
 
-/// A term without a flaw has a sort, and what it means has the same sort. What an atom without a flaw
-/// means is well sorted; so is what a formula without a flaw and without a quantifier means.
+/// In the scope of a signature a term without a flaw has a sort, and what it means has the same sort.
+/// What an atom without a flaw means is well sorted; so is what a formula without a flaw and without a
+/// quantifier means.
 pub fn what_has_no_flaw_is_well_sorted()
     ensures terms { FlawlessTermsAreSorted }
     ensures atoms { FlawlessAtomsAreSorted }
     ensures formulas { FlawlessFormulasAreSorted }
 {}
 
-/// What a term, an atom or a formula means is written as it was, where all its names stand for
-/// something, and the formula has no quantifier.
+/// By the names of its scope, what a term, an atom or a formula means is written as it was, if a form can
+/// be it, all its names stand for something, and a formula has no quantifier.
 pub fn what_is_meant_is_written_back()
     ensures terms { TermsAreWrittenBack }
     ensures atoms { AtomsAreWrittenBack }
