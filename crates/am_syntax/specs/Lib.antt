@@ -10,3 +10,5 @@ pub mod Flaws
 pub mod Meaning
 pub mod Naming
 pub mod Sorted
+pub mod Occurring
+pub mod Laws
