@@ -7,9 +7,11 @@
 #![tactic(auto)]
 
 mod scope;
+mod shapes;
 mod table;
 mod written;
 
 pub use scope::{Bound, Flaw, Scope, Standing};
+pub use shapes::term_of;
 pub use table::NameTable;
 pub use written::{Words, WrittenAtom, WrittenFormula, WrittenLiteral, WrittenTerm};
