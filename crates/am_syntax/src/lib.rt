@@ -12,6 +12,6 @@ mod table;
 mod written;
 
 pub use scope::{Bound, Flaw, Scope, Standing};
-pub use shapes::term_of;
+pub use shapes::{formula_of, literal_of, term_of};
 pub use table::NameTable;
 pub use written::{Words, WrittenAtom, WrittenFormula, WrittenLiteral, WrittenTerm};
