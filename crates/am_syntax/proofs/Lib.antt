@@ -1,3 +1,4 @@
 pub mod Positions
 pub mod ShapeEquations
+pub mod FormEquations
 pub mod FormulaEquations

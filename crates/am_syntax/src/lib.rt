@@ -6,11 +6,13 @@
 //! again. The format is this project's own. The crate rests on `am_term` and `am_text`.
 #![tactic(auto)]
 
+mod forms;
 mod scope;
 mod shapes;
 mod table;
 mod written;
 
+pub use forms::{atom_form, formula_form, term_form};
 pub use scope::{Bound, Flaw, Scope, Standing};
 pub use shapes::{formula_of, literal_of, term_of};
 pub use table::NameTable;
