@@ -10,3 +10,4 @@ pub mod Scopes
 pub mod Flaws
 pub mod Meaning
 pub mod Naming
+pub mod ShapeLaws

@@ -25,11 +25,7 @@ pub fn term_form(alloc: Global, term: &WrittenTerm) -> Result<Form, NoMemory>
 /// A word, and behind it the forms that the terms are.
 #[cycle(term_forms)]
 #[tactic(auto, using(crate::proofs::FormEquations::form_laws))]
-fn headed_terms(
-    alloc: Global,
-    head: &str,
-    terms: &[WrittenTerm],
-) -> Result<Items<Form>, NoMemory>
+fn headed_terms(alloc: Global, head: &str, terms: &[WrittenTerm]) -> Result<Items<Form>, NoMemory>
     ensures { IfOk result (λ fs. fs ≡ word_spelled head.now ∷ map term_spelled terms.now) }
 {
     let mut forms = Items::new(alloc);

@@ -7,12 +7,17 @@
 #![tactic(auto)]
 
 mod forms;
+mod laws_of_shapes;
 mod scope;
 mod shapes;
 mod table;
 mod written;
 
 pub use forms::{atom_form, formula_form, term_form};
+pub use laws_of_shapes::{
+    places_do_not_count, read_formulas_can_be_spelled, read_terms_can_be_spelled,
+    spelled_formulas_are_read, spelled_terms_are_read,
+};
 pub use scope::{Bound, Flaw, Scope, Standing};
 pub use shapes::{formula_of, literal_of, term_of};
 pub use table::NameTable;
