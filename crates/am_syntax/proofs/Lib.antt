@@ -7,3 +7,10 @@ pub mod LargerFormula
 pub mod WellSorted
 pub mod WellSortedFormula
 pub mod WrittenBack
+pub mod Positions
+pub mod ShapeEquations
+pub mod FormEquations
+pub mod FormulaEquations
+pub mod PlacesAside
+pub mod SpelledRead
+pub mod ReadSpelled
