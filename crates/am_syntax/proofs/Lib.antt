@@ -1,0 +1,2 @@
+mod FlawSteps
+mod Looking
