@@ -100,3 +100,5 @@ misfit-past s (t ∷ ts) [] (suc i) h = misfit-nowhere s.parents (written_sorts 
 misfit-past s (t ∷ ts) (p ∷ ps) (suc i) h = misfit-past s ts ps i (omega arith)
 
 pub ruleset sort_steps = (common_steps, nat_tests, fits-in, akin-in, misfit-nowhere, misfit-at, misfit-past)
+
+pub ruleset atom_steps = (common_steps, list_any_more, list_any_at)

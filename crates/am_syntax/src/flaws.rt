@@ -1,11 +1,12 @@
 ghost use Rattle.std.specs.Prelude.{◌≡◌, is_none};
+ghost use Rattle.std.specs.List.{list_any};
 ghost use Rattle.am_syntax.specs.Scopes.{scope_of, symbol_of, standing_of, args_of};
-ghost use Rattle.am_syntax.specs.Flaws.{has_unknown_name, has_bad_sort, has_bad_arity, has_unbound, term_has, written_sort, written_sorts, misfits, some_misfit, is_relation, is_function, is_lone_relation, is_lone_function, is_miscounted, is_unbound};
+ghost use Rattle.am_syntax.specs.Flaws.{has_unknown_name, has_bad_sort, has_bad_arity, has_unbound, term_has, relation_has, equation_has, are_apart, atom_has, formula_has, has_quantifier, written_sort, written_sorts, misfits, some_misfit, is_relation, is_function, is_lone_relation, is_lone_function, is_miscounted, is_unbound};
 
 use crate::lookups::{standing, symbol, written_sort};
 use crate::scope::{Flaw, Scope, Standing};
-use crate::written::WrittenTerm;
-use am_term::{Name, SortId, fits};
+use crate::written::{WrittenAtom, WrittenFormula, WrittenTerm};
+use am_term::{Name, SortId, akin, fits};
 
 /// Whether the term has this flaw: the head of a list in it is no symbol; a relation stands as a term
 /// in it, or a term's sort doesn't fit its place; a symbol in it has another number of arguments than
@@ -208,4 +209,141 @@ fn misfits(scope: &Scope, term: &WrittenTerm, place: SortId) -> bool
         Some(sort) => !fits(scope.sig, sort, place),
         None => false,
     }
+}
+
+/// Whether the atom has this flaw, in one of its terms or in itself: its name is no symbol; it is a
+/// function, a term's sort doesn't fit its place, or the sorts of the sides of an equation aren't akin;
+/// or it has another number of arguments than declared. Takes no memory.
+#[tactic(auto, using(crate::proofs::FlawSteps::atom_steps))]
+pub fn atom_has(scope: &Scope, flaw: Flaw, atom: &WrittenAtom) -> bool
+    ensures { result ≡ atom_has (scope_of scope.now) flaw atom.now }
+{
+    match atom {
+        WrittenAtom::Equation { left, right } => {
+            equation_has(scope, flaw, left, right)
+                || (term_has(scope, flaw, left) || term_has(scope, flaw, right))
+        }
+        WrittenAtom::Relation { name, args } => {
+            relation_has(scope, flaw, name, args.as_slice())
+                || some_term_has(scope, flaw, args.as_slice())
+        }
+    }
+}
+
+// Whether the relation has the flaw, beside its arguments.
+fn relation_has(scope: &Scope, flaw: Flaw, name: &Name, args: &[WrittenTerm]) -> bool
+    ensures { result ≡ relation_has (scope_of scope.now) flaw name.now args.now }
+{
+    match flaw {
+        Flaw::UnknownName => is_unknown(scope, name),
+        Flaw::BadSort => is_function(scope, name) || has_misfit(scope, name, args),
+        Flaw::BadArity => is_miscounted(scope, name, args.len()),
+        Flaw::Unbound => false,
+    }
+}
+
+// Whether the equation has the flaw, beside its sides.
+fn equation_has(scope: &Scope, flaw: Flaw, left: &WrittenTerm, right: &WrittenTerm) -> bool
+    ensures { result ≡ equation_has (scope_of scope.now) flaw left.now right.now }
+{
+    match flaw {
+        Flaw::UnknownName => false,
+        Flaw::BadSort => are_apart(scope, left, right),
+        Flaw::BadArity => false,
+        Flaw::Unbound => false,
+    }
+}
+
+// Both terms have sorts, and these aren't akin.
+#[tactic(auto, using(crate::proofs::FlawSteps::sort_steps))]
+fn are_apart(scope: &Scope, left: &WrittenTerm, right: &WrittenTerm) -> bool
+    ensures { result ≡ are_apart (scope_of scope.now).parents (written_sort (scope_of scope.now) left.now) (written_sort (scope_of scope.now) right.now) }
+{
+    let Some(first) = written_sort(scope, left) else {
+        return false;
+    };
+    match written_sort(scope, right) {
+        Some(second) => !akin(scope.sig, first, second),
+        None => false,
+    }
+}
+
+#[tactic(auto, using(crate::proofs::FlawSteps::atom_steps))]
+fn some_term_has(scope: &Scope, flaw: Flaw, terms: &[WrittenTerm]) -> bool
+    ensures { result ≡ list_any (term_has (scope_of scope.now) flaw) terms.now }
+{
+    for term in terms {
+        if term_has(scope, flaw, term) {
+            return true;
+        }
+    }
+    false
+}
+
+/// Whether some atom of the formula has the flaw; in a quantifier nothing is tested. Takes no memory.
+#[cycle(atoms)]
+#[tactic(auto, using(crate::proofs::FormulaSteps::formula_steps))]
+pub fn formula_has(scope: &Scope, flaw: Flaw, formula: &WrittenFormula) -> bool
+    ensures { result ≡ formula_has (scope_of scope.now) flaw formula.now }
+{
+    match formula {
+        WrittenFormula::Atom(atom) => atom_has(scope, flaw, atom),
+        WrittenFormula::Not(inner) => formula_has(scope, flaw, inner.get()),
+        WrittenFormula::And(parts) => some_formula_has(scope, flaw, parts.as_slice()),
+        WrittenFormula::Or(parts) => some_formula_has(scope, flaw, parts.as_slice()),
+        WrittenFormula::Implies(left, right) => {
+            formula_has(scope, flaw, left.get()) || formula_has(scope, flaw, right.get())
+        }
+        WrittenFormula::Iff(left, right) => {
+            formula_has(scope, flaw, left.get()) || formula_has(scope, flaw, right.get())
+        }
+        WrittenFormula::Quantified => false,
+    }
+}
+
+#[cycle(atoms)]
+#[tactic(auto, using(crate::proofs::FormulaSteps::formula_steps))]
+fn some_formula_has(scope: &Scope, flaw: Flaw, formulas: &[WrittenFormula]) -> bool
+    ensures { result ≡ list_any (formula_has (scope_of scope.now) flaw) formulas.now }
+{
+    for formula in formulas {
+        if formula_has(scope, flaw, formula) {
+            return true;
+        }
+    }
+    false
+}
+
+/// Whether a quantifier stands inside the formula. Takes no memory.
+#[cycle(quantifiers)]
+#[tactic(auto, using(crate::proofs::FormulaSteps::formula_steps))]
+pub fn has_quantifier(formula: &WrittenFormula) -> bool
+    ensures { result ≡ has_quantifier formula.now }
+{
+    match formula {
+        WrittenFormula::Atom(_) => false,
+        WrittenFormula::Not(inner) => has_quantifier(inner.get()),
+        WrittenFormula::And(parts) => some_has_quantifier(parts.as_slice()),
+        WrittenFormula::Or(parts) => some_has_quantifier(parts.as_slice()),
+        WrittenFormula::Implies(left, right) => {
+            has_quantifier(left.get()) || has_quantifier(right.get())
+        }
+        WrittenFormula::Iff(left, right) => {
+            has_quantifier(left.get()) || has_quantifier(right.get())
+        }
+        WrittenFormula::Quantified => true,
+    }
+}
+
+#[cycle(quantifiers)]
+#[tactic(auto, using(crate::proofs::FormulaSteps::formula_steps))]
+fn some_has_quantifier(formulas: &[WrittenFormula]) -> bool
+    ensures { result ≡ list_any has_quantifier formulas.now }
+{
+    for formula in formulas {
+        if has_quantifier(formula) {
+            return true;
+        }
+    }
+    false
 }

@@ -12,7 +12,7 @@ mod scope;
 mod table;
 mod written;
 
-pub use flaws::term_has;
+pub use flaws::{atom_has, formula_has, has_quantifier, term_has};
 pub use lookups::written_sort;
 pub use scope::{Bound, Flaw, Scope, Standing};
 pub use table::NameTable;
