@@ -1,3 +1,5 @@
 mod FlawSteps
 mod FormulaSteps
 mod Looking
+mod MeaningSteps
+mod NamingSteps

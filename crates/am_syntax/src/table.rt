@@ -16,7 +16,7 @@ pub struct NameTable {
 }
 
 impl NameTable {
-    /// The number of the name. Takes no memory.
+    /// The number of the name.
     pub fn position(&self, name: &Name) -> Option<u32>
         ensures { result ≡ position_of name.now self.now.names }
     {
