@@ -7,6 +7,11 @@ pub mod LargerFormula
 pub mod WellSorted
 pub mod WellSortedFormula
 pub mod WrittenBack
+pub mod FlawSteps
+pub mod FormulaSteps
+pub mod Looking
+pub mod MeaningSteps
+pub mod NamingSteps
 pub mod Positions
 pub mod ShapeEquations
 pub mod FormEquations
