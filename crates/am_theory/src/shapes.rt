@@ -1,0 +1,182 @@
+ghost use Rattle.std.specs.Prelude.{◌≡◌, IfOk, map, option_copied};
+ghost use Rattle.am_syntax.specs.Shapes.{all_of};
+ghost use Rattle.am_theory.specs.Declarations.{word_of, number_of, value_of, list_of, name_of, names_of, typed_of, rep_named, rep_of_one, rep_of_two, rep_in, written_rep_of};
+
+use crate::declaration::{Typed, WrittenRep};
+use crate::theory::LitValue;
+use am_term::{Name, NoMemory, is_name};
+use am_text::{Form, FormNode};
+use sqlite_items::Items;
+use std::alloc::Global;
+
+/// The word that the form is, if it is one.
+#[tactic(auto, using(crate::proofs::FormParts::form_laws))]
+pub fn word_of(form: &Form) -> Option<&Name>
+    ensures { option_copied result ≡ word_of form.now }
+{
+    match &form.node {
+        FormNode::Word(word) => Some(word),
+        FormNode::Number(_) => None,
+        FormNode::Text(_) => None,
+        FormNode::List(_) => None,
+    }
+}
+
+/// The number that the form is, if it is one.
+#[tactic(auto, using(crate::proofs::FormParts::form_laws))]
+pub fn number_of(form: &Form) -> Option<i64>
+    ensures { result ≡ number_of form.now }
+{
+    match &form.node {
+        FormNode::Word(_) => None,
+        FormNode::Number(number) => Some(*number),
+        FormNode::Text(_) => None,
+        FormNode::List(_) => None,
+    }
+}
+
+/// The members of the list that the form is, if it is one.
+#[tactic(auto, using(crate::proofs::FormParts::form_laws))]
+pub fn list_of(form: &Form) -> Option<&[Form]>
+    ensures { option_copied result ≡ list_of form.now }
+{
+    match &form.node {
+        FormNode::Word(_) => None,
+        FormNode::Number(_) => None,
+        FormNode::Text(_) => None,
+        FormNode::List(members) => Some(members.as_slice()),
+    }
+}
+
+/// The value that the form is, if it is a number or a text.
+#[tactic(auto, using(crate::proofs::FormParts::form_laws))]
+pub fn value_of(alloc: Global, form: &Form) -> Result<Option<LitValue>, NoMemory>
+    ensures { IfOk result (λ v. v ≡ value_of form.now) }
+{
+    match &form.node {
+        FormNode::Word(_) => Ok(None),
+        FormNode::Number(number) => Ok(Some(LitValue::Int(*number))),
+        FormNode::Text(text) => {
+            let text = Name::new(alloc, text.as_str())?;
+            Ok(Some(LitValue::Text(text)))
+        }
+        FormNode::List(_) => Ok(None),
+    }
+}
+
+/// The word that the form is, if that is a name.
+#[tactic(auto, unfolding(crate::specs::Declarations::name_of))]
+pub fn name_of(form: &Form) -> Option<&Name>
+    ensures { option_copied result ≡ name_of form.now }
+{
+    let word = word_of(form)?;
+    if !is_name(word.as_str().as_bytes()) {
+        return None;
+    }
+    Some(word)
+}
+
+/// The names that the form lists, if it is a list of names.
+#[tactic(auto, unfolding(crate::specs::Declarations::names_of))]
+pub fn names_of(alloc: Global, form: &Form) -> Result<Option<Items<Name>>, NoMemory>
+    ensures { IfOk result (λ ns. ns ≡ names_of form.now) }
+{
+    let Some(members) = list_of(form) else {
+        return Ok(None);
+    };
+    all_names(alloc, members)
+}
+
+#[tactic(auto, using(crate::proofs::FormParts::list_laws))]
+fn all_names(alloc: Global, forms: &[Form]) -> Result<Option<Items<Name>>, NoMemory>
+    ensures { IfOk result (λ ns. ns ≡ all_of (map name_of forms.now)) }
+{
+    let mut names = Items::new(alloc);
+    for form in forms {
+        let Some(name) = name_of(form) else {
+            return Ok(None);
+        };
+        names.push(Name::new(alloc, name.as_str())?)?;
+    }
+    Ok(Some(names))
+}
+
+/// The name and the sort that the form pairs, if it is such a pair.
+#[tactic(auto, unfolding(crate::specs::Declarations::typed_of))]
+pub fn typed_of(alloc: Global, form: &Form) -> Result<Option<Typed>, NoMemory>
+    ensures { IfOk result (λ t. t ≡ typed_of form.now) }
+{
+    let Some([name, sort]) = list_of(form) else {
+        return Ok(None);
+    };
+    let Some(name) = name_of(name) else {
+        return Ok(None);
+    };
+    let Some(sort) = name_of(sort) else {
+        return Ok(None);
+    };
+    let name = Name::new(alloc, name.as_str())?;
+    let sort = Name::new(alloc, sort.as_str())?;
+    Ok(Some(Typed { name, sort }))
+}
+
+/// The representation that the form writes, if it writes one.
+#[tactic(auto, unfolding(crate::specs::Declarations::written_rep_of))]
+pub fn written_rep_of(form: &Form) -> Option<WrittenRep>
+    ensures { result ≡ written_rep_of form.now }
+{
+    match word_of(form) {
+        Some(word) => rep_named(word.as_str()),
+        None => rep_in(list_of(form)?),
+    }
+}
+
+fn rep_named(word: &str) -> Option<WrittenRep>
+    ensures { result ≡ rep_named word.now }
+{
+    if word == "double" {
+        Some(WrittenRep::Double)
+    } else if word == "integer" {
+        Some(WrittenRep::Integer)
+    } else if word == "logical" {
+        Some(WrittenRep::Logical)
+    } else {
+        None
+    }
+}
+
+fn rep_in(members: &[Form]) -> Option<WrittenRep>
+    ensures { result ≡ rep_in members.now }
+{
+    match members {
+        [head, number] => rep_of_one(word_of(head)?.as_str(), number_of(number)?),
+        [head, first, second] => {
+            rep_of_two(word_of(head)?.as_str(), number_of(first)?, number_of(second)?)
+        }
+        _ => None,
+    }
+}
+
+fn rep_of_one(head: &str, number: i64) -> Option<WrittenRep>
+    ensures { result ≡ rep_of_one head.now number }
+{
+    if head == "char" {
+        Some(WrittenRep::Char(number))
+    } else if head == "double" {
+        Some(WrittenRep::DoubleVec(number))
+    } else if head == "integer" {
+        Some(WrittenRep::IntegerVec(number))
+    } else {
+        None
+    }
+}
+
+fn rep_of_two(head: &str, first: i64, second: i64) -> Option<WrittenRep>
+    ensures { result ≡ rep_of_two head.now first second }
+{
+    if head == "double" {
+        Some(WrittenRep::DoubleMat(first, second))
+    } else {
+        None
+    }
+}
