@@ -1,8 +1,8 @@
-ghost use Rattle.std.specs.Prelude.{◌≡◌, IfOk, map, option_copied};
-ghost use Rattle.am_syntax.specs.Shapes.{all_of};
-ghost use Rattle.am_theory.specs.Declarations.{word_of, number_of, value_of, list_of, name_of, names_of, typed_of, rep_named, rep_of_one, rep_of_two, rep_in, written_rep_of};
+ghost use Rattle.std.specs.Prelude.{◌≡◌, [], ◌∷◌, IfOk, map, option_copied};
+ghost use Rattle.am_syntax.specs.Shapes.{all_of, some_of};
+ghost use Rattle.am_theory.specs.Declarations.{word_of, number_of, value_of, list_of, name_of, names_of, typed_of, rep_named, rep_of_one, rep_of_two, rep_in, written_rep_of, sort_decl, function_decl, relation_decl, literal_decl, routine_decl, value_decl};
 
-use crate::declaration::{Typed, WrittenRep};
+use crate::declaration::{Declaration, Typed, WrittenRep};
 use crate::theory::LitValue;
 use am_term::{Name, NoMemory, is_name};
 use am_text::{Form, FormNode};
@@ -179,4 +179,201 @@ fn rep_of_two(head: &str, first: i64, second: i64) -> Option<WrittenRep>
     } else {
         None
     }
+}
+
+#[tactic(auto, using(crate::proofs::FormParts::list_laws))]
+fn all_typed(alloc: Global, forms: &[Form]) -> Result<Option<Items<Typed>>, NoMemory>
+    ensures { IfOk result (λ ts. ts ≡ all_of (map typed_of forms.now)) }
+{
+    let mut all = Items::new(alloc);
+    for form in forms {
+        let Some(typed) = typed_of(alloc, form)? else {
+            return Ok(None);
+        };
+        all.push(typed)?;
+    }
+    Ok(Some(all))
+}
+
+fn some_typed(alloc: Global, forms: &[Form]) -> Result<Option<Items<Typed>>, NoMemory>
+    ensures { IfOk result (λ ts. ts ≡ some_of (map typed_of forms.now)) }
+{
+    match forms {
+        [] => Ok(None),
+        [_, ..] => all_typed(alloc, forms),
+    }
+}
+
+fn sort_decl(alloc: Global, rest: &[Form]) -> Result<Option<Declaration>, NoMemory>
+    ensures { IfOk result (λ d. d ≡ sort_decl rest.now) }
+{
+    match rest {
+        [name] => abstract_sort(alloc, name),
+        [name, rep] => concrete_sort(alloc, name, rep),
+        [name, rep, copy] => copied_sort(alloc, name, rep, copy),
+        _ => Ok(None),
+    }
+}
+
+fn abstract_sort(alloc: Global, name: &Form) -> Result<Option<Declaration>, NoMemory>
+    ensures { IfOk result (λ d. d ≡ sort_decl (name.now ∷ [])) }
+{
+    let Some(name) = name_of(name) else {
+        return Ok(None);
+    };
+    Ok(Some(Declaration::Sort {
+        name: Name::new(alloc, name.as_str())?,
+        rep: None,
+        copy: None,
+    }))
+}
+
+fn concrete_sort(alloc: Global, name: &Form, rep: &Form) -> Result<Option<Declaration>, NoMemory>
+    ensures { IfOk result (λ d. d ≡ sort_decl (name.now ∷ rep.now ∷ [])) }
+{
+    let Some(name) = name_of(name) else {
+        return Ok(None);
+    };
+    let Some(rep) = written_rep_of(rep) else {
+        return Ok(None);
+    };
+    Ok(Some(Declaration::Sort {
+        name: Name::new(alloc, name.as_str())?,
+        rep: Some(rep),
+        copy: None,
+    }))
+}
+
+fn copied_sort(
+    alloc: Global,
+    name: &Form,
+    rep: &Form,
+    copy: &Form,
+) -> Result<Option<Declaration>, NoMemory>
+    ensures { IfOk result (λ d. d ≡ sort_decl (name.now ∷ rep.now ∷ copy.now ∷ [])) }
+{
+    let Some(name) = name_of(name) else {
+        return Ok(None);
+    };
+    let Some(rep) = written_rep_of(rep) else {
+        return Ok(None);
+    };
+    let Some(copy) = word_of(copy) else {
+        return Ok(None);
+    };
+    let name = Name::new(alloc, name.as_str())?;
+    let copy = Name::new(alloc, copy.as_str())?;
+    Ok(Some(Declaration::Sort {
+        name,
+        rep: Some(rep),
+        copy: Some(copy),
+    }))
+}
+
+fn function_decl(alloc: Global, rest: &[Form]) -> Result<Option<Declaration>, NoMemory>
+    ensures { IfOk result (λ d. d ≡ function_decl rest.now) }
+{
+    let [name, args, sort] = rest else {
+        return Ok(None);
+    };
+    let Some(name) = name_of(name) else {
+        return Ok(None);
+    };
+    let Some(sort) = name_of(sort) else {
+        return Ok(None);
+    };
+    let Some(args) = names_of(alloc, args)? else {
+        return Ok(None);
+    };
+    let name = Name::new(alloc, name.as_str())?;
+    let result = Name::new(alloc, sort.as_str())?;
+    Ok(Some(Declaration::Function { name, args, result }))
+}
+
+fn relation_decl(alloc: Global, rest: &[Form]) -> Result<Option<Declaration>, NoMemory>
+    ensures { IfOk result (λ d. d ≡ relation_decl rest.now) }
+{
+    let [name, args] = rest else {
+        return Ok(None);
+    };
+    let Some(name) = name_of(name) else {
+        return Ok(None);
+    };
+    let Some(args) = names_of(alloc, args)? else {
+        return Ok(None);
+    };
+    let name = Name::new(alloc, name.as_str())?;
+    Ok(Some(Declaration::Relation { name, args }))
+}
+
+fn literal_decl(alloc: Global, rest: &[Form]) -> Result<Option<Declaration>, NoMemory>
+    ensures { IfOk result (λ d. d ≡ literal_decl rest.now) }
+{
+    let [name, sort, value] = rest else {
+        return Ok(None);
+    };
+    let Some(name) = name_of(name) else {
+        return Ok(None);
+    };
+    let Some(sort) = name_of(sort) else {
+        return Ok(None);
+    };
+    let Some(value) = value_of(alloc, value)? else {
+        return Ok(None);
+    };
+    let name = Name::new(alloc, name.as_str())?;
+    let sort = Name::new(alloc, sort.as_str())?;
+    Ok(Some(Declaration::Literal { name, sort, value }))
+}
+
+fn routine_decl(alloc: Global, rest: &[Form]) -> Result<Option<Declaration>, NoMemory>
+    ensures { IfOk result (λ d. d ≡ routine_decl rest.now) }
+{
+    let [name, inputs, outputs @ ..] = rest else {
+        return Ok(None);
+    };
+    let Some(name) = word_of(name) else {
+        return Ok(None);
+    };
+    let Some(inputs) = names_of(alloc, inputs)? else {
+        return Ok(None);
+    };
+    let Some(outputs) = some_typed(alloc, outputs)? else {
+        return Ok(None);
+    };
+    let name = Name::new(alloc, name.as_str())?;
+    Ok(Some(Declaration::Routine {
+        name,
+        inputs,
+        outputs,
+    }))
+}
+
+fn value_decl(alloc: Global, rest: &[Form]) -> Result<Option<Declaration>, NoMemory>
+    ensures { IfOk result (λ d. d ≡ value_decl rest.now) }
+{
+    let [function, name, args, sort] = rest else {
+        return Ok(None);
+    };
+    let Some(function) = word_of(function) else {
+        return Ok(None);
+    };
+    let Some(name) = name_of(name) else {
+        return Ok(None);
+    };
+    let Some(sort) = name_of(sort) else {
+        return Ok(None);
+    };
+    let Some(args) = names_of(alloc, args)? else {
+        return Ok(None);
+    };
+    let function = Name::new(alloc, function.as_str())?;
+    let name = Name::new(alloc, name.as_str())?;
+    let result = Name::new(alloc, sort.as_str())?;
+    Ok(Some(Declaration::Value {
+        function,
+        name,
+        args,
+        result,
+    }))
 }
