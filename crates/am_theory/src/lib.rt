@@ -9,6 +9,7 @@
 #![tactic(auto)]
 
 mod declaration;
+mod declaration_forms;
 mod fault;
 mod shapes;
 mod theory;
