@@ -4,3 +4,5 @@ pub mod Looking
 pub mod MeaningSteps
 pub mod NamingSteps
 pub mod Positions
+pub mod ShapeEquations
+pub mod FormulaEquations

@@ -11,6 +11,7 @@ mod lookups;
 mod meaning;
 mod naming;
 mod scope;
+mod shapes;
 mod table;
 mod written;
 
@@ -19,5 +20,6 @@ pub use lookups::written_sort;
 pub use meaning::{atom_meaning, formula_meaning, literal_meaning, term_meaning};
 pub use naming::{Naming, named_atom, named_formula, named_term};
 pub use scope::{Bound, Flaw, Scope, Standing};
+pub use shapes::{formula_of, literal_of, term_of};
 pub use table::NameTable;
 pub use written::{Words, WrittenAtom, WrittenFormula, WrittenLiteral, WrittenTerm};
