@@ -1,9 +1,10 @@
 ghost use Rattle.std.specs.Prelude.{◌≡◌, [], ◌∷◌, IfOk, map, option_copied};
 ghost use Rattle.am_syntax.specs.Shapes.{all_of, some_of};
-ghost use Rattle.am_theory.specs.Declarations.{word_of, number_of, value_of, list_of, name_of, names_of, typed_of, rep_named, rep_of_one, rep_of_two, rep_in, written_rep_of, sort_decl, function_decl, relation_decl, literal_decl, routine_decl, value_decl};
+ghost use Rattle.am_theory.specs.Declarations.{word_of, number_of, value_of, list_of, name_of, names_of, typed_of, rep_named, rep_of_one, rep_of_two, rep_in, written_rep_of, sort_decl, function_decl, relation_decl, literal_decl, routine_decl, value_decl, axiom_decl, is_all, plain_axiom, quantified_axiom, decl_of, decl_headed, version_of};
 
 use crate::declaration::{Declaration, Typed, WrittenRep};
 use crate::theory::LitValue;
+use am_syntax::{Words, formula_of};
 use am_term::{Name, NoMemory, is_name};
 use am_text::{Form, FormNode};
 use sqlite_items::Items;
@@ -376,4 +377,102 @@ fn value_decl(alloc: Global, rest: &[Form]) -> Result<Option<Declaration>, NoMem
         args,
         result,
     }))
+}
+
+fn axiom_decl(alloc: Global, rest: &[Form]) -> Result<Option<Declaration>, NoMemory>
+    ensures { IfOk result (λ d. d ≡ axiom_decl rest.now) }
+{
+    let [formula] = rest else {
+        return Ok(None);
+    };
+    let Some([head, parts @ ..]) = list_of(formula) else {
+        return plain_axiom(alloc, formula);
+    };
+    if is_all(head) {
+        quantified_axiom(alloc, parts)
+    } else {
+        plain_axiom(alloc, formula)
+    }
+}
+
+fn is_all(head: &Form) -> bool
+    ensures { result ≡ is_all (word_of head.now) }
+{
+    match word_of(head) {
+        Some(word) => word.as_str() == "all",
+        None => false,
+    }
+}
+
+fn plain_axiom(alloc: Global, formula: &Form) -> Result<Option<Declaration>, NoMemory>
+    ensures { IfOk result (λ d. d ≡ plain_axiom formula.now) }
+{
+    let Some(formula) = formula_of(alloc, Words::Names, formula)? else {
+        return Ok(None);
+    };
+    Ok(Some(Declaration::Axiom {
+        variables: Items::new(alloc),
+        formula,
+    }))
+}
+
+fn quantified_axiom(alloc: Global, parts: &[Form]) -> Result<Option<Declaration>, NoMemory>
+    ensures { IfOk result (λ d. d ≡ quantified_axiom parts.now) }
+{
+    let [variables, formula] = parts else {
+        return Ok(None);
+    };
+    let Some(variables) = list_of(variables) else {
+        return Ok(None);
+    };
+    let Some(variables) = some_typed(alloc, variables)? else {
+        return Ok(None);
+    };
+    let Some(formula) = formula_of(alloc, Words::Names, formula)? else {
+        return Ok(None);
+    };
+    Ok(Some(Declaration::Axiom { variables, formula }))
+}
+
+/// The declaration that the form is, if it has the shape of one. The format is this project's own.
+#[tactic(auto, unfolding(crate::specs::Declarations::decl_of))]
+pub fn decl_of(alloc: Global, form: &Form) -> Result<Option<Declaration>, NoMemory>
+    ensures { IfOk result (λ d. d ≡ decl_of form.now) }
+{
+    let Some([head, rest @ ..]) = list_of(form) else {
+        return Ok(None);
+    };
+    let Some(head) = word_of(head) else {
+        return Ok(None);
+    };
+    decl_headed(alloc, head.as_str(), rest)
+}
+
+fn decl_headed(alloc: Global, head: &str, rest: &[Form]) -> Result<Option<Declaration>, NoMemory>
+    ensures { IfOk result (λ d. d ≡ decl_headed head.now rest.now) }
+{
+    match head {
+        "sort" => sort_decl(alloc, rest),
+        "function" => function_decl(alloc, rest),
+        "relation" => relation_decl(alloc, rest),
+        "literal" => literal_decl(alloc, rest),
+        "routine" => routine_decl(alloc, rest),
+        "value" => value_decl(alloc, rest),
+        "axiom" => axiom_decl(alloc, rest),
+        _ => Ok(None),
+    }
+}
+
+/// The version that the form names, if it is the first form of a theory file.
+#[tactic(auto, unfolding(crate::specs::Declarations::version_of))]
+pub fn version_of(form: &Form) -> Option<i64>
+    ensures { result ≡ version_of form.now }
+{
+    let [head, number] = list_of(form)? else {
+        return None;
+    };
+    if word_of(head)?.as_str() != "theory" {
+        return None;
+    }
+    number_of(number)
 }
