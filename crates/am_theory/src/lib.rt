@@ -9,7 +9,9 @@
 #![tactic(auto)]
 
 mod declaration;
+mod declaration_forms;
 mod fault;
+mod shapes;
 mod theory;
 
 pub use declaration::{Declaration, Typed, WrittenRep};
