@@ -1,0 +1,3 @@
+mod FlawSteps
+mod FormulaSteps
+mod Looking

@@ -6,10 +6,14 @@
 //! again. The format is this project's own. The crate rests on `am_term` and `am_text`.
 #![tactic(auto)]
 
+mod flaws;
+mod lookups;
 mod scope;
 mod table;
 mod written;
 
+pub use flaws::{atom_has, formula_has, has_quantifier, term_has};
+pub use lookups::written_sort;
 pub use scope::{Bound, Flaw, Scope, Standing};
 pub use table::NameTable;
 pub use written::{Words, WrittenAtom, WrittenFormula, WrittenLiteral, WrittenTerm};

@@ -14,3 +14,12 @@ pub struct NameTable {
     numbers: HashMap<String, u32>,
     ghost agrees: { (q : List ℕ) → get_by_text numbers q ≡ position_of q names },
 }
+
+impl NameTable {
+    /// The number of the name. Takes no memory.
+    pub fn position(&self, name: &Name) -> Option<u32>
+        ensures { result ≡ position_of name.now self.now.names }
+    {
+        self.numbers.get(name.as_str()).copied()
+    }
+}
