@@ -1,3 +1,4 @@
 mod FlawSteps
 mod FormulaSteps
 mod Looking
+pub mod Positions
