@@ -10,6 +10,7 @@
 
 mod declaration;
 mod fault;
+mod tables;
 mod theory;
 
 pub use declaration::{Declaration, Typed, WrittenRep};
