@@ -10,6 +10,10 @@
 
 mod declaration;
 mod fault;
+mod fortran;
+mod kinds;
+mod limits;
+mod reps;
 mod tables;
 mod theory;
 
