@@ -1,5 +1,5 @@
 -- What is wrong with a term is so with its head or with one of its arguments.
-use Rattle.std.proofs.Common.{◌≡◌, ◌∙◌, ℕ, ◌<◌, ◌≤◌, ◌+◌, Bool, true, false, List, [], ◌∷◌, map, length, min, zero, suc, get_or, drop, add-one, drop-cons, Option, Some, None, refl, ap, arith}
+use Rattle.std.proofs.Common.{◌≡◌, ◌∙◌, ℕ, ◌<◌, ◌≤◌, ◌+◌, Bool, false, List, [], ◌∷◌, map, length, min, zero, suc, get_or, drop, add-one, drop-cons, Option, refl, ap, arith}
 use Rattle.std.specs.Prelude.{◌||◌, is_none}
 use Rattle.std.specs.List.{list_any}
 use Rattle.std.proofs.lemmas.Grind.{common_steps}
@@ -9,10 +9,8 @@ use Rattle.am_term.specs.declared.id.SortId.{SortId}
 use Rattle.am_term.specs.declared.signature.Signature.{Signature}
 use Rattle.am_term.specs.Sorts.{fits, fits_in, akin, akin_in}
 use Rattle.am_syntax.specs.declared.written.WrittenTerm.{WrittenTerm}
-use Rattle.am_syntax.specs.declared.written.WrittenTerm.TheOpen.{WrittenTerm-F}
 use Rattle.am_syntax.specs.declared.written.WrittenTerm.TheVariants.{Alone, Headed}
 use Rattle.am_syntax.specs.declared.written.WrittenTerm.TheViews.{the_lemmas}
-use Rattle.am_syntax.specs.declared.written.WrittenTerm.TheFolds.{para-WrittenTerm}
 use Rattle.am_syntax.specs.Fold.{fold-Alone, fold-Headed, para-Alone, para-Headed}
 use Rattle.am_syntax.specs.Scopes.{Scope, standing_of, symbol_of, args_of}
 use Rattle.am_syntax.specs.Flaws.{any_true, unknown_step, has_unknown_name, written_sort, written_sorts, misfits, some_misfit, is_relation, is_lone_relation, parts_terms, parts_flaws, bad_sort_step, has_bad_sort, is_miscounted, is_lone_function, bad_arity_step, has_bad_arity, is_unbound, unbound_step, has_unbound}

@@ -1,4 +1,6 @@
-mod FlawSteps
-mod FormulaSteps
-mod Looking
+pub mod FlawSteps
+pub mod FormulaSteps
+pub mod Looking
+pub mod MeaningSteps
+pub mod NamingSteps
 pub mod Positions

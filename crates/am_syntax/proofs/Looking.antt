@@ -1,17 +1,16 @@
 -- Looking names up: what stands for what, which symbol has the name, and which sort a term has.
-use Rattle.std.proofs.Common.{◌≡◌, ℕ, ◌<◌, ◌≤◌, ◌+◌, true, false, List, [], ◌∷◌, map, length, get_or, drop, add-one, drop-cons, zero, suc, Option, Some, None, refl, ap, arith}
+use Rattle.std.proofs.Common.{◌≡◌, ℕ, ◌<◌, ◌≤◌, ◌+◌, true, false, List, [], ◌∷◌, map, length, get_or, drop, add-one, drop-cons, zero, suc, Option, Some, None, refl, ap}
 use Rattle.std.specs.Prelude.{option_map, slice_get}
 use Rattle.std.specs.Str.{bytes_eq}
 use Rattle.std.proofs.lemmas.Grind.{common_steps}
 use Rattle.std.proofs.lemmas.List.{drop_all}
-use Rattle.am_term.specs.declared.id.SortId.{SortId}
 use Rattle.am_term.specs.declared.symbol.Symbol.{Symbol}
 use Rattle.am_syntax.specs.declared.scope.Bound.{Bound}
 use Rattle.am_syntax.specs.declared.scope.Standing.{Standing}
 use Rattle.am_syntax.specs.declared.written.WrittenTerm.{WrittenTerm}
 use Rattle.am_syntax.specs.declared.written.WrittenTerm.TheVariants.{Alone, Headed, outs-Alone, outs-Headed}
 use Rattle.am_syntax.specs.declared.written.WrittenTerm.TheViews.{the_lemmas}
-use Rattle.am_syntax.specs.Scopes.{Scope, Profile, profile, standing_of, symbol_of, result_of, alone_sort}
+use Rattle.am_syntax.specs.Scopes.{Scope, profile, standing_of, symbol_of, result_of, alone_sort}
 use Rattle.am_syntax.specs.Flaws.{written_sort, sort_at}
 
 abbrev pub no_standing : Option Standing

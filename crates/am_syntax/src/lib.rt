@@ -8,12 +8,16 @@
 
 mod flaws;
 mod lookups;
+mod meaning;
+mod naming;
 mod scope;
 mod table;
 mod written;
 
 pub use flaws::{atom_has, formula_has, has_quantifier, term_has};
 pub use lookups::written_sort;
+pub use meaning::{atom_meaning, formula_meaning, literal_meaning, term_meaning};
+pub use naming::{Naming, named_atom, named_formula, named_term};
 pub use scope::{Bound, Flaw, Scope, Standing};
 pub use table::NameTable;
 pub use written::{Words, WrittenAtom, WrittenFormula, WrittenLiteral, WrittenTerm};
