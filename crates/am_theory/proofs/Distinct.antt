@@ -1,9 +1,12 @@
 -- No name of a list stands twice, found from the front with those seen so far.
-use Rattle.std.proofs.Common.{◌≡◌, ◌∙◌, ℕ, Bool, true, false, List, [], ◌∷◌, refl, sym, ap, arith}
+use Rattle.std.proofs.Common.{◌≡◌, ◌∙◌, ℕ, suc, ◌+◌, ◌<◌, ◌≤◌, Bool, true, false, List, [], ◌∷◌, length, get_or, drop, drop-cons, refl, sym, ap, arith}
+use Rattle.std.proofs.lemmas.List.{drop_all}
 use Rattle.std.specs.Prelude.{◌||◌, ◌&&◌, not}
 use Rattle.std.specs.List.{list_any}
 use Rattle.std.specs.Str.{bytes_eq}
 use Rattle.std.proofs.lemmas.Slice.Eq.{bytes_eq-Decides}
+use Rattle.am_theory.specs.declared.declaration.Typed.{Typed}
+use Rattle.am_theory.specs.Faults.{names_in}
 use Rattle.am_term.specs.NameLists.{is_among, are_distinct}
 
 -- some name is among those seen
@@ -39,12 +42,23 @@ distinct-step seen next n ns h e =
     ∙ parted (is_among n ns) (any_among seen ns) (are_distinct ns)
     ∙ ap (λ b. not (b || any_among seen ns) && are_distinct (n ∷ ns)) (sym e)
 
+-- what is left decides: none of it was seen, and none of it stands twice
+abbrev pub is_left_distinct : List (List ℕ) → List Typed → Bool
+is_left_distinct seen vs = not (any_among seen (names_in vs)) && are_distinct (names_in vs)
+
 none-seen : (ns : List (List ℕ)) → any_among [] ns ≡ false
 none-seen [] = refl
 none-seen (n ∷ ns) = none-seen ns
 
-pub distinct-start : (ns : List (List ℕ)) → (not (any_among [] ns) && are_distinct ns) ≡ are_distinct ns
-distinct-start ns = ap (λ b. not b && are_distinct ns) (none-seen ns)
+pub distinct-start : (seen : List (List ℕ)) (vs : List Typed) → seen ≡ [] → is_left_distinct seen vs ≡ are_distinct (names_in vs)
+distinct-start seen vs e = ap (λ s. is_left_distinct s vs) e ∙ ap (λ b. not b && are_distinct (names_in vs)) (none-seen (names_in vs))
 
-pub distinct-twice : (seen : List (List ℕ)) (n : List ℕ) (ns : List (List ℕ)) → is_among n seen ≡ true → (not (any_among seen (n ∷ ns)) && are_distinct (n ∷ ns)) ≡ false
-distinct-twice seen n ns e = ap (λ b. not (b || any_among seen ns) && are_distinct (n ∷ ns)) e
+one-left : (vs : List Typed) (i : ℕ) (one : Typed) → i < length vs → one ≡ get_or vs i one → drop i vs ≡ one ∷ drop (i + 1) vs
+one-left vs i one h e =
+    let n : suc i ≡ i + 1 = omega arith in
+    drop-cons vs i one h ∙ ap (λ m. get_or vs i one ∷ drop m vs) n ∙ ap (λ v. v ∷ drop (i + 1) vs) (sym e)
+
+pub distinct-on : (seen next : List (List ℕ)) (vs : List Typed) (i : ℕ) (one : Typed) → i < length vs → one ≡ get_or vs i one → ((q : List ℕ) → is_among q next ≡ (bytes_eq q one.name || is_among q seen)) → is_among one.name seen ≡ false → is_left_distinct next (drop (i + 1) vs) ≡ is_left_distinct seen (drop i vs)
+distinct-on seen next vs i one h is add e =
+    distinct-step seen next one.name (names_in (drop (i + 1) vs)) add e
+    ∙ ap (is_left_distinct seen) (sym (one-left vs i one h is))

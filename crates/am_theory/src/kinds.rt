@@ -119,7 +119,11 @@ fn has_unknown_name(tables: &Tables, scope: &Scope, declaration: &Declaration) -
         }
         Declaration::Relation { args, .. } => has_unknown_sort(tables, args.as_slice()),
         Declaration::Literal { sort, .. } => tables.is_unknown_sort(sort),
-        Declaration::Routine { inputs, outputs, .. } => {
+        Declaration::Routine {
+            inputs,
+            outputs,
+            ..
+        } => {
             has_unknown_sort(tables, inputs.as_slice())
                 || has_unknown_typed(tables, outputs.as_slice())
         }
@@ -146,11 +150,7 @@ fn has_unknown_typed(tables: &Tables, typed: &[Typed]) -> bool
 }
 
 #[tactic(auto, unfolding(crate::specs::Faults::is_twice), using(crate::proofs::KindSteps::kind_steps))]
-fn is_twice(
-    alloc: Global,
-    tables: &Tables,
-    declaration: &Declaration,
-) -> Result<bool, NoMemory>
+fn is_twice(alloc: Global, tables: &Tables, declaration: &Declaration) -> Result<bool, NoMemory>
     ensures { IfOk result (λ twice. twice ≡ is_twice (contents tables.now.theory) declaration.now) }
 {
     match declaration {
@@ -193,13 +193,11 @@ fn are_distinct(alloc: Global, typed: &[Typed]) -> Result<bool, NoMemory>
     ensures { IfOk result (λ distinct. distinct ≡ are_distinct (names_in typed.now)) }
 {
     let mut seen = NameTable::new(alloc);
-    let mut rest = typed;
-    while let [one, behind @ ..] = rest {
+    for one in typed {
         if seen.contains(&one.name) {
             return Ok(false);
         }
         seen = seen.including(alloc, &one.name)?;
-        rest = behind;
     }
     Ok(true)
 }
@@ -208,7 +206,9 @@ fn has_literal(tables: &Tables, sort: SortId, value: &LitValue) -> bool
     ensures { result ≡ list_any (is_literal_of (contents tables.now.theory) sort value.now) (contents tables.now.theory).literals }
 {
     let literals = tables.theory.literals.as_slice();
-    literals.iter().any(|literal| is_literal_of(tables, sort, value, literal))
+    literals
+        .iter()
+        .any(|literal| is_literal_of(tables, sort, value, literal))
 }
 
 fn is_literal_of(tables: &Tables, sort: SortId, value: &LitValue, literal: &LiteralDecl) -> bool

@@ -14,12 +14,19 @@ use am_term::{Formula, NoMemory};
 use std::alloc::Global;
 
 const SORT_LIMIT: usize = 256;
+
 const SYMBOL_LIMIT: usize = 4096;
+
 const AXIOM_LIMIT: usize = 2000;
+
 const VARIABLE_LIMIT: usize = 32;
+
 const LITERAL_LIMIT: usize = 16;
+
 const ARGUMENT_LIMIT: usize = 12;
+
 const OUTPUT_LIMIT: usize = 12;
+
 const CALL_LIMIT: usize = 18;
 
 /// Whether a count is above its limit in the declaration, or with it.
@@ -42,7 +49,11 @@ pub fn is_over_limit(
             Ok(is_past_symbols(tables, 1) || args.len() > ARGUMENT_LIMIT)
         }
         Declaration::Literal { .. } => Ok(is_past_symbols(tables, 1)),
-        Declaration::Routine { inputs, outputs, .. } => {
+        Declaration::Routine {
+            inputs,
+            outputs,
+            ..
+        } => {
             Ok(is_past_symbols(tables, outputs.len()) || is_long_call(inputs.len(), outputs.len()))
         }
         Declaration::Value { args, .. } => {
@@ -90,5 +101,7 @@ fn has_many_clauses(alloc: Global, formula: &Formula) -> Result<bool, NoMemory>
 fn has_long_clause(clauses: &[Clause]) -> bool
     ensures { result ≡ list_any is_long_clause clauses.now }
 {
-    clauses.iter().any(|clause| clause.literals.len() > LITERAL_LIMIT)
+    clauses
+        .iter()
+        .any(|clause| clause.literals.len() > LITERAL_LIMIT)
 }

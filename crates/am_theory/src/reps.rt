@@ -27,7 +27,11 @@ pub fn is_badly_represented(tables: &Tables, declaration: &Declaration) -> bool
         Declaration::Function { .. } => false,
         Declaration::Relation { .. } => false,
         Declaration::Literal { sort, value, .. } => !suits(value, tables.rep_named(sort)),
-        Declaration::Routine { inputs, outputs, .. } => {
+        Declaration::Routine {
+            inputs,
+            outputs,
+            ..
+        } => {
             has_abstract(tables, inputs.as_slice())
                 || has_abstract_typed(tables, outputs.as_slice())
         }
