@@ -1,1 +1,3 @@
 pub mod FormParts
+mod Distinct
+mod KindSteps

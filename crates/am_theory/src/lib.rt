@@ -12,6 +12,11 @@ mod declaration;
 mod declaration_forms;
 mod fault;
 mod shapes;
+mod fortran;
+mod kinds;
+mod limits;
+mod reps;
+mod tables;
 mod theory;
 
 pub use declaration::{Declaration, Typed, WrittenRep};
