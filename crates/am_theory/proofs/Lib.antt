@@ -1,3 +1,4 @@
 pub mod FormParts
 mod Distinct
 mod KindSteps
+pub mod RunOf

@@ -8,3 +8,4 @@ pub mod Faults
 pub mod Limits
 pub mod Lookups
 pub mod Reading
+pub mod Traces
