@@ -1,6 +1,10 @@
+pub mod Called
 pub mod Clean
+pub mod CleanSymbol
 pub mod Joined
 pub mod KnownSorts
 pub mod MoreSorts
 pub mod Parents
 pub mod Positions
+pub mod SortFirst
+pub mod Swapped
