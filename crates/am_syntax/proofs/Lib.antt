@@ -16,10 +16,6 @@ pub mod FormulaSteps
 pub mod Looking
 pub mod MeaningSteps
 pub mod NamingSteps
-pub mod Positions
-pub mod ShapeEquations
-pub mod FormEquations
-pub mod FormulaEquations
 pub mod PlacesAside
 pub mod SpelledRead
 pub mod ReadSpelled
