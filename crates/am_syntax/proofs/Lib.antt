@@ -5,3 +5,6 @@ pub mod FormulaEquations
 pub mod PlacesAside
 pub mod SpelledRead
 pub mod ReadSpelled
+pub mod Writable
+pub mod Members
+pub mod FormAgain
