@@ -1,24 +1,24 @@
 -- The form of what was read, beside the form that it was read from.
 use Rattle.std.proofs.Common.{◌≡◌, ℕ, ◌+◌, ◌≤◌, max, Bool, true, false, List, [], ◌∷◌, map, Option, Some, None, refl, sym, ap, subst, ◌∙◌, arith}
-use Rattle.std.specs.Prelude.{◌&&◌, codes, if◌then◌else◌}
+use Rattle.std.specs.Prelude.{codes, if◌then◌else◌}
 use Rattle.am_term.specs.Names.{is_name}
 use Rattle.am_text.specs.declared.form.Form.{Form}
 use Rattle.am_text.specs.declared.form.FormNode.{FormNode}
 use Rattle.am_text.specs.declared.form.FormNode.TheVariants as node
 use Rattle.am_text.specs.Grammar.{greatest, height, node_height, highest}
 use Rattle.am_text.specs.Spelling.{bare, node_bare, is_word, is_writable, node_writable}
-use Rattle.am_text.proofs.Folds.{height-Word, height-Number, height-Text, height-List, height-form, writable-Word, writable-Number, writable-Text, writable-List, writable-form, bare-Word, bare-Number, bare-Text, bare-List, bare-form}
+use Rattle.am_text.proofs.Folds.{height-Word, height-List, height-form, writable-List, writable-form, bare-Word, bare-Number, bare-Text, bare-List, bare-form}
 use Rattle.am_text.proofs.FormInduct.{form_induct, node_induct}
 use Rattle.am_text.proofs.Runs.{both}
 use Rattle.am_syntax.specs.declared.written.Words.{Words}
 use Rattle.am_syntax.specs.declared.written.WrittenTerm.{WrittenTerm}
-use Rattle.am_syntax.specs.declared.written.WrittenTerm.TheVariants.{Alone, Headed}
+use Rattle.am_syntax.specs.declared.written.WrittenTerm.TheVariants.{Alone}
 use Rattle.am_syntax.specs.declared.written.WrittenAtom.TheVariants.{Equation, Relation}
 use Rattle.am_syntax.specs.declared.written.WrittenFormula.{WrittenFormula}
 use Rattle.am_syntax.specs.declared.written.WrittenFormula.TheVariants as made
-use Rattle.am_syntax.specs.Shapes.{may_stand, all_of, term_of, formula_of}
+use Rattle.am_syntax.specs.Shapes.{may_stand, term_of, formula_of}
 use Rattle.am_syntax.specs.Heads.{word_of}
-use Rattle.am_syntax.specs.Forms.{word_form, list_form, headed_form, term_form, atom_form, formula_form, all_true}
+use Rattle.am_syntax.specs.Forms.{word_form, list_form, headed_form, term_form, formula_form, all_true}
 use Rattle.am_syntax.specs.ShapeLaws.{ReadTermIsItsForm, ReadTermIsNoHigher, ReadFormulaIsNoHigher, ReadTermCanBeWritten, ReadFormulaCanBeWritten}
 use Rattle.am_syntax.proofs.ShapeEquations.{no_term, no_formula, node_term, node_formula, term-at, term-Word, term-Number, term-Text, term-nil, term-cons, formula-at, formula-Word, formula-Number, formula-Text, formula-nil, word-Word, word-Number, word-Text, word-List}
 use Rattle.am_syntax.proofs.FormEquations.{form-Alone, form-Headed, form-Atom, form-Not, form-And, form-Or, form-Implies, form-Iff, form-Quantified}

@@ -4,7 +4,7 @@ pub mod FormEquations
 pub mod FormulaEquations
 pub mod PlacesAside
 pub mod SpelledRead
+pub mod Members
 pub mod ReadSpelled
 pub mod Writable
-pub mod Members
 pub mod FormAgain

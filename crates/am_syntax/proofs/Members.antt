@@ -16,6 +16,7 @@ use Rattle.am_syntax.specs.declared.shapes.Head.{Head}
 use Rattle.am_syntax.specs.declared.shapes.Head.TheVariants.{Joined, Equals, Quantifier, Related, Other}
 use Rattle.am_syntax.specs.Shapes.{with_first, all_of, some_of, term_of, formula_of}
 use Rattle.am_syntax.specs.Heads.{word_of, head_of, name_of, term_by, some_in, joined, equation_from, relation_from, formula_of_head}
+use Rattle.am_syntax.specs.Forms.{is_some_list}
 use Rattle.am_syntax.proofs.ShapeEquations.{no_term, some_is, node_formula, formula-cons}
 use Rattle.am_syntax.proofs.FormulaEquations.{formula-head}
 
@@ -45,20 +46,20 @@ module _ (A B : Type 0) (f : A → Option B) (R : A → B → Type 0) where
 
 -- ---- the term that a list is
 abbrev pub IsHeaded : Option (List ℕ) → Option (List WrittenTerm) → WrittenTerm → Type 0
-IsHeaded w r t = (h : List ℕ) × (args : List WrittenTerm) × (w ≡ Some h) × (r ≡ Some args) × (Headed h args ≡ t)
+IsHeaded w r t = (h : List ℕ) × (args : List WrittenTerm) × (w ≡ Some h) × (r ≡ Some args) × (Headed h args ≡ t) × (is_name h ≡ true) × (is_some_list args ≡ true)
 
-headed_from : (h : List ℕ) (r : Option (List WrittenTerm)) (t : WrittenTerm) → option_map (Headed h) (some_in r) ≡ Some t → IsHeaded (Some h) r t
-headed_from h None t e = absurd cc
-headed_from h (Some []) t e = absurd cc
-headed_from h (Some (x ∷ xs)) t e = (h, x ∷ xs, refl, refl, let g : Headed h (x ∷ xs) ≡ t = cc in g)
+headed_from : (h : List ℕ) (r : Option (List WrittenTerm)) (t : WrittenTerm) → is_name h ≡ true → option_map (Headed h) (some_in r) ≡ Some t → IsHeaded (Some h) r t
+headed_from h None t n e = absurd cc
+headed_from h (Some []) t n e = absurd cc
+headed_from h (Some (x ∷ xs)) t n e = (h, x ∷ xs, refl, refl, let g : Headed h (x ∷ xs) ≡ t = cc in g, n, refl)
 
-headed_by : (b : Bool) (h : List ℕ) (terms : List (Option WrittenTerm)) (t : WrittenTerm) → (if b then option_map (Headed h) (some_of terms) else no_term) ≡ Some t → IsHeaded (Some h) (all_of terms) t
-headed_by true h terms t e = headed_from h (all_of terms) t (ap (option_map (Headed h)) (sym (some_is terms)) ∙ e)
-headed_by false h terms t e = absurd cc
+headed_by : (b : Bool) (h : List ℕ) (terms : List (Option WrittenTerm)) (t : WrittenTerm) → is_name h ≡ b → (if b then option_map (Headed h) (some_of terms) else no_term) ≡ Some t → IsHeaded (Some h) (all_of terms) t
+headed_by true h terms t n e = headed_from h (all_of terms) t n (ap (option_map (Headed h)) (sym (some_is terms)) ∙ e)
+headed_by false h terms t n e = absurd cc
 
 pub headed_is : (w : Option (List ℕ)) (terms : List (Option WrittenTerm)) (t : WrittenTerm) → term_by w terms ≡ Some t → IsHeaded w (all_of terms) t
 headed_is None terms t e = absurd cc
-headed_is (Some h) terms t e = headed_by (is_name h) h terms t e
+headed_is (Some h) terms t e = headed_by (is_name h) h terms t refl e
 
 -- ---- the formula that a list is
 name_by : (b : Bool) (h m : List ℕ) → is_name h ≡ b → (if b then Some h else None) ≡ Some m → is_name m ≡ true

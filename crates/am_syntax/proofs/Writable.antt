@@ -1,5 +1,5 @@
 -- Forms of terms and formulas whose words are names can be written.
-use Rattle.std.proofs.Common.{◌≡◌, ℕ, ◌+◌, ◌≤◌, Bool, true, false, List, [], ◌∷◌, length, map, refl, sym, ap, ◌∙◌, arith}
+use Rattle.std.proofs.Common.{◌≡◌, ℕ, true, false, List, [], ◌∷◌, length, map, refl, sym, ap, ◌∙◌, arith}
 use Rattle.std.specs.Prelude.{◌&&◌, ◌==◌, not, codes, nat_lt, nat_le}
 use Rattle.std.specs.Char.{is_ascii_digit}
 use Rattle.std.specs.List.{list_all}
@@ -21,7 +21,7 @@ use Rattle.am_syntax.specs.declared.written.WrittenFormula.{WrittenFormula}
 use Rattle.am_syntax.specs.declared.written.WrittenFormula.TheVariants as made
 use Rattle.am_syntax.specs.Induct.{written_term_induct}
 use Rattle.am_syntax.specs.InductFormula.{written_formula_induct}
-use Rattle.am_syntax.specs.Forms.{word_form, list_form, headed_form, term_form, atom_form, formula_form, is_some_list, all_true, is_spellable, is_spellable_atom, is_spellable_formula}
+use Rattle.am_syntax.specs.Forms.{word_form, headed_form, term_form, atom_form, formula_form, is_some_list, all_true, is_spellable, is_spellable_atom, is_spellable_formula}
 use Rattle.am_syntax.specs.ShapeLaws.{SpelledTermCanBeWritten, SpelledFormulaCanBeWritten}
 use Rattle.am_syntax.proofs.SpelledRead.{all_in}
 use Rattle.am_syntax.proofs.FormEquations.{form-Alone, form-Headed, form-Atom, form-Not, form-And, form-Or, form-Implies, form-Iff, form-Quantified, spellable-Alone, spellable-Headed, spellable-Atom, spellable-Not, spellable-And, spellable-Or, spellable-Implies, spellable-Iff}
