@@ -8,7 +8,7 @@ use Rattle.am_term.specs.declared.symbol.Symbol.{Symbol}
 use Rattle.am_term.specs.declared.term.Term.TheViews as term_view
 use Rattle.am_term.specs.declared.term.Formula.TheViews as formula_view
 use Rattle.am_syntax.specs.declared.written.WrittenTerm.{WrittenTerm}
-use Rattle.am_syntax.specs.declared.written.WrittenTerm.TheVariants.{Alone, Headed}
+use Rattle.am_syntax.specs.declared.written.WrittenTerm.TheVariants.{Headed}
 use Rattle.am_syntax.specs.Naming.{applied}
 use Rattle.am_syntax.proofs.Equations.{named_term-Var, named_term-In, named_term-App, named_formula-Atom, named_formula-Not, named_formula-And, named_formula-Or, named_formula-Implies, named_formula-Iff}
 
