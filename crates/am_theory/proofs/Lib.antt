@@ -1,1 +1,3 @@
 pub mod FormParts
+pub mod DeclarationSteps
+pub mod LineSteps

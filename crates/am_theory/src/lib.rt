@@ -10,6 +10,7 @@
 
 mod declaration;
 mod declaration_forms;
+mod declarations;
 mod fault;
 mod shapes;
 mod theory;
