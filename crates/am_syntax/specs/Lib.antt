@@ -11,3 +11,4 @@ pub mod Flaws
 pub mod Meaning
 pub mod Naming
 pub mod Sorted
+pub mod ShapeLaws
