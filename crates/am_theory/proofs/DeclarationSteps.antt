@@ -5,10 +5,9 @@ use Rattle.std.proofs.lemmas.List.{drop_all, append-nil}
 use Rattle.std.proofs.lemmas.Grind.{common_steps}
 use Rattle.am_term.specs.declared.symbol.Symbol.{Symbol}
 use Rattle.am_syntax.specs.Scopes.{Profile, profile}
-use Rattle.am_theory.specs.declared.theory.Rep.{Rep}
 use Rattle.am_theory.specs.declared.declaration.Declaration.{Declaration}
 use Rattle.am_theory.specs.Contents.{Contents}
-use Rattle.am_theory.specs.CanonicalText.{sort_decls, symbol_decl, symbol_decls}
+use Rattle.am_theory.specs.CanonicalText.{symbol_decl, symbol_decls}
 
 -- ---- sorts
 pub append-on : {A : Type 0} (xs : List A) (y : A) (ys : List A) → (xs ++ y ∷ []) ++ ys ≡ xs ++ y ∷ ys

@@ -1,6 +1,6 @@
 -- Steps of writing lines.
 use Rattle.std.proofs.Common.{◌≡◌, ℕ, ◌+◌, ◌<◌, List, [], ◌∷◌, ◌++◌, length, map, take, get_or, refl, sym, ap, ◌∙◌, append_assoc}
-use Rattle.std.proofs.lemmas.List.{map_more, append-nil}
+use Rattle.std.proofs.lemmas.List.{map_more}
 use Rattle.std.proofs.lemmas.Grind.{common_steps}
 use Rattle.am_text.specs.declared.form.Form.{Form}
 use Rattle.am_text.specs.Spelling.{written, lines}

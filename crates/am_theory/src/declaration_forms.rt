@@ -155,12 +155,7 @@ fn sort_form(
     Ok(list_form(members))
 }
 
-fn function_form(
-    alloc: Global,
-    name: &Name,
-    args: &[Name],
-    sort: &Name,
-) -> Result<Form, NoMemory>
+fn function_form(alloc: Global, name: &Name, args: &[Name], sort: &Name) -> Result<Form, NoMemory>
     ensures { IfOk result (λ f. f ≡ headed_form (codes "function") (word_form name.now ∷ names_form args.now ∷ word_form sort.now ∷ [])) }
 {
     let mut members = two_words(alloc, "function", name)?;
@@ -177,12 +172,7 @@ fn relation_form(alloc: Global, name: &Name, args: &[Name]) -> Result<Form, NoMe
     Ok(list_form(members))
 }
 
-fn literal_form(
-    alloc: Global,
-    name: &Name,
-    sort: &Name,
-    value: &LitValue,
-) -> Result<Form, NoMemory>
+fn literal_form(alloc: Global, name: &Name, sort: &Name, value: &LitValue) -> Result<Form, NoMemory>
     ensures { IfOk result (λ f. f ≡ headed_form (codes "literal") (word_form name.now ∷ word_form sort.now ∷ value_form value.now ∷ [])) }
 {
     let mut members = two_words(alloc, "literal", name)?;

@@ -215,11 +215,7 @@ fn literal_decl(
     Ok(Declaration::Literal { name, sort, value })
 }
 
-fn routine_decl(
-    alloc: Global,
-    theory: &Theory,
-    routine: &Routine,
-) -> Result<Declaration, NoMemory>
+fn routine_decl(alloc: Global, theory: &Theory, routine: &Routine) -> Result<Declaration, NoMemory>
     ensures { IfOk result (λ d. routine_decl (contents theory.now) (Some routine.now) ≡ d ∷ []) }
 {
     let name = Name::new(alloc, routine.name.as_str())?;
@@ -360,11 +356,7 @@ fn typed_output(alloc: Global, theory: &Theory, output: SymId) -> Result<Typed, 
 }
 
 #[tactic(auto, using(crate::proofs::FormParts::map_laws))]
-fn push_axioms(
-    alloc: Global,
-    theory: &Theory,
-    out: &mut Items<Declaration>,
-) -> Result<(), NoMemory>
+fn push_axioms(alloc: Global, theory: &Theory, out: &mut Items<Declaration>) -> Result<(), NoMemory>
     ensures { OnOk result (out.new ≡ out.old ++ map (written_axiom (contents theory.now)) theory.now.axioms) }
 {
     for axiom in theory.axioms.as_slice() {

@@ -14,7 +14,9 @@ mod declarations;
 mod fault;
 mod shapes;
 mod theory;
+mod writing;
 
 pub use declaration::{Declaration, Typed, WrittenRep};
 pub use fault::{TheoryFault, TheoryKind};
 pub use theory::{Axiom, FortranFunction, LitValue, LiteralDecl, Rep, Routine, Theory};
+pub use writing::write_theory;
