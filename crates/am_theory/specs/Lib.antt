@@ -7,3 +7,5 @@ pub mod Faults
 pub mod Limits
 pub mod Lookups
 pub mod Reading
+pub mod Traces
+pub mod Spellable

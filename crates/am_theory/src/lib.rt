@@ -20,3 +20,6 @@ pub use declaration::{Declaration, Typed, WrittenRep};
 pub use fault::{TheoryFault, TheoryKind};
 pub use theory::{Axiom, FortranFunction, LitValue, LiteralDecl, Rep, Routine, Theory};
 pub use writing::write_theory;
+
+#[cfg(test)]
+mod shape_tests;
