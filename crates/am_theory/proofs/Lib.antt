@@ -5,3 +5,4 @@ pub mod OfForm
 pub mod DeclarationPlaces
 pub mod DeclarationAgain
 pub mod DeclarationWritten
+pub mod DeclarationRead

@@ -9,3 +9,4 @@ pub mod Lookups
 pub mod Reading
 pub mod Traces
 pub mod Spellable
+pub mod DeclarationLaws
