@@ -12,3 +12,10 @@ pub mod Parents
 pub mod Positions
 pub mod SortFirst
 pub mod Swapped
+pub mod DeclarationSteps
+pub mod LineSteps
+pub mod OfForm
+pub mod DeclarationPlaces
+pub mod DeclarationAgain
+pub mod DeclarationWritten
+pub mod DeclarationRead

@@ -9,3 +9,5 @@ pub mod Limits
 pub mod Lookups
 pub mod Reading
 pub mod Traces
+pub mod Spellable
+pub mod DeclarationLaws

@@ -10,7 +10,9 @@
 
 mod declaration;
 mod declaration_forms;
+mod declarations;
 mod fault;
+mod laws_of_declarations;
 mod shapes;
 mod fortran;
 mod kinds;
@@ -18,7 +20,16 @@ mod limits;
 mod reps;
 mod tables;
 mod theory;
+mod writing;
 
 pub use declaration::{Declaration, Typed, WrittenRep};
 pub use fault::{TheoryFault, TheoryKind};
+pub use laws_of_declarations::{
+    places_do_not_count, read_declarations_are_no_higher, read_declarations_can_be_spelled,
+    spelled_declarations_are_read, spelled_declarations_can_be_written,
+};
 pub use theory::{Axiom, FortranFunction, LitValue, LiteralDecl, Rep, Routine, Theory};
+pub use writing::write_theory;
+
+#[cfg(test)]
+mod shape_tests;
