@@ -1,1 +1,3 @@
 pub mod RunOf
+pub mod OfForm
+pub mod Appends
