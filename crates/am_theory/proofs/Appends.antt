@@ -1,7 +1,8 @@
 -- Lists that are put one after another: their members, and whether two of them are one.
-use Rattle.std.proofs.Common.{◌≡◌, ◌∙◌, ◌+◌, ◌<◌, ◌&&◌, ◌||◌, ℕ, zero, suc, Bool, true, false, not, List, [], ◌∷◌, ◌++◌, map, length, Some, refl, sym, ap, subst, arith, slice_get, zero-add}
-use Rattle.std.specs.List.{AllByRecursion, list_all, list_any}
+use Rattle.std.proofs.Common.{◌≡◌, ◌∙◌, ◌+◌, ◌<◌, ◌&&◌, ◌||◌, ℕ, zero, suc, Bool, true, false, not, List, [], ◌∷◌, ◌++◌, map, length, Some, refl, sym, ap, subst, arith, slice_get, append_assoc, zero-add}
+use Rattle.std.specs.List.{AllZip, AllByRecursion, list_all, list_any}
 use Rattle.std.specs.Str.{bytes_eq}
+use Rattle.std.proofs.lemmas.List.{append-nil}
 use Rattle.std.proofs.lemmas.List.Folds.{list_any-append}
 use Rattle.std.proofs.lemmas.Slice.Eq.{bytes_eq-Decides}
 use Rattle.am_term.proofs.Tests.{and_left, and_right, and_both, true_not, not_false}
@@ -56,6 +57,13 @@ all-failed test (x ∷ xs) e = (none_left (test x) (list_any test xs) e, all-fai
 pub none-passed : {X : Type 0} (test : X → Bool) (xs : List X) → AllByRecursion (λ x. test x ≡ false) xs → list_any test xs ≡ false
 none-passed test [] h = refl
 none-passed test (x ∷ xs) h = none_both (test x) (list_any test xs) h.0 (none-passed test xs h.1)
+
+-- ---- two lists side by side
+pub zip-push : {A B : Type 0} (R : A → B → Type 0) (xs : List A) (ys : List B) (x : A) (y : B) → AllZip R xs ys → R x y → AllZip R (xs ++ x ∷ []) (ys ++ y ∷ [])
+zip-push R [] [] x y h k = (k, tt)
+zip-push R [] (b ∷ ys) x y h k = absurd h
+zip-push R (a ∷ xs) [] x y h k = absurd h
+zip-push R (a ∷ xs) (b ∷ ys) x y h k = (h.0, zip-push R xs ys x y h.1 k)
 
 -- ---- members by their numbers
 pub get-left : {X : Type 0} (xs ys : List X) (k : ℕ) (x : X) → slice_get xs k ≡ Some x → slice_get (xs ++ ys) k ≡ Some x
@@ -138,3 +146,24 @@ names-turned n m = grind (arith, bytes_eq-Decides n m, bytes_eq-Decides m n)
 pub distinct-differ : (ns : List (List ℕ)) → are_distinct ns ≡ differ bytes_eq names-turned ns
 distinct-differ [] = refl
 distinct-differ (n ∷ ns) = ap (λ b. not (is_among n ns) && b) (distinct-differ ns)
+
+pub distinct-append : (xs ns : List (List ℕ)) → are_distinct xs ≡ true → are_distinct ns ≡ true → AllByRecursion (λ n. is_among n xs ≡ false) ns → are_distinct (xs ++ ns) ≡ true
+distinct-append xs ns e f h =
+    let none : xs ++ [] ≡ xs = append-nil xs in
+    let whole : differ bytes_eq names-turned (xs ++ (ns ++ [])) ≡ true =
+        between bytes_eq names-turned xs ns [] (ap (differ bytes_eq names-turned) none ∙ sym (distinct-differ xs) ∙ e) (sym (distinct-differ ns) ∙ f)
+        (subst (λ (ys : List (List ℕ)). AllByRecursion (λ n. is_among n ys ≡ false) ns) (sym none) h) in
+    distinct-differ (xs ++ ns) ∙ ap (λ (ys : List (List ℕ)). differ bytes_eq names-turned (xs ++ ys)) (sym (append-nil ns)) ∙ whole
+
+-- one more name in between
+pub distinct-insert : (xs bs : List (List ℕ)) (n : List ℕ) → are_distinct (xs ++ bs) ≡ true → is_among n (xs ++ bs) ≡ false → are_distinct ((xs ++ n ∷ []) ++ bs) ≡ true
+distinct-insert xs bs n e h =
+    ap are_distinct (append_assoc xs (n ∷ []) bs) ∙ distinct-differ (xs ++ n ∷ bs)
+    ∙ between bytes_eq names-turned xs (n ∷ []) bs (sym (distinct-differ (xs ++ bs)) ∙ e) refl (h, tt)
+
+-- a name that is none of these: none of these is that name
+pub none-is : (n : List ℕ) (ms : List (List ℕ)) → is_among n ms ≡ false → AllByRecursion (λ m. bytes_eq m n ≡ false) ms
+none-is n ms e = all-weaker (λ m. bytes_eq n m ≡ false) (λ m. bytes_eq m n ≡ false) (λ m k. names-turned m n ∙ k) ms (all-failed (bytes_eq n) ms e)
+
+pub among-append : (n : List ℕ) (xs ys : List (List ℕ)) → is_among n xs ≡ false → is_among n ys ≡ false → is_among n (xs ++ ys) ≡ false
+among-append n xs ys e f = list_any-append (bytes_eq n) xs ys ∙ none_both (is_among n xs) (is_among n ys) e f

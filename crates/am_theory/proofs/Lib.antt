@@ -1,3 +1,9 @@
 pub mod RunOf
 pub mod OfForm
 pub mod Appends
+pub mod NoFault
+pub mod Sound
+pub mod Alone
+pub mod Growing
+pub mod SortNames
+pub mod SoundSort
