@@ -1,6 +1,6 @@
 -- Lists that are put one after another: their members, and whether two of them are one.
 use Rattle.std.proofs.Common.{◌≡◌, ◌∙◌, ◌+◌, ◌<◌, ◌&&◌, ◌||◌, ℕ, zero, suc, Bool, true, false, not, List, [], ◌∷◌, ◌++◌, map, length, Some, refl, sym, ap, subst, arith, slice_get, append_assoc, zero-add}
-use Rattle.std.specs.List.{AllZip, AllByRecursion, list_all, list_any}
+use Rattle.std.specs.List.{AllZip, AllByRecursion, flat_map, list_all, list_any}
 use Rattle.std.specs.Str.{bytes_eq}
 use Rattle.std.proofs.lemmas.List.{append-nil}
 use Rattle.std.proofs.lemmas.List.Folds.{list_any-append}
@@ -167,3 +167,25 @@ none-is n ms e = all-weaker (λ m. bytes_eq n m ≡ false) (λ m. bytes_eq m n �
 
 pub among-append : (n : List ℕ) (xs ys : List (List ℕ)) → is_among n xs ≡ false → is_among n ys ≡ false → is_among n (xs ++ ys) ≡ false
 among-append n xs ys e f = list_any-append (bytes_eq n) xs ys ∙ none_both (is_among n xs) (is_among n ys) e f
+
+-- names of which none is one of others: none of the others is one of them
+pub apart-turned : (ns ms : List (List ℕ)) → AllByRecursion (λ n. is_among n ms ≡ false) ns → AllByRecursion (λ m. is_among m ns ≡ false) ms
+apart-turned ns [] h = tt
+apart-turned ns (m ∷ ms) h = (from_head bytes_eq names-turned ns ms m h, apart-turned ns ms (from_tail bytes_eq names-turned ns ms m h))
+
+-- what holds of each member of each of the lists that are put one after another
+pub all-flat : {X Y : Type 0} (P : Y → Type 0) (f : X → List Y) (xs : List X) → AllByRecursion (λ x. AllByRecursion P (f x)) xs → AllByRecursion P (flat_map f xs)
+all-flat P f [] h = tt
+all-flat P f (x ∷ xs) h = all-append P (f x) (flat_map f xs) h.0 (all-flat P f xs h.1)
+
+all-front : {X : Type 0} (P : X → Type 0) (xs ys : List X) → AllByRecursion P (xs ++ ys) → AllByRecursion P xs
+all-front P [] ys h = tt
+all-front P (x ∷ xs) ys h = (h.0, all-front P xs ys h.1)
+
+all-back : {X : Type 0} (P : X → Type 0) (xs ys : List X) → AllByRecursion P (xs ++ ys) → AllByRecursion P ys
+all-back P [] ys h = h
+all-back P (x ∷ xs) ys h = all-back P xs ys h.1
+
+pub all-unflat : {X Y : Type 0} (P : Y → Type 0) (f : X → List Y) (xs : List X) → AllByRecursion P (flat_map f xs) → AllByRecursion (λ x. AllByRecursion P (f x)) xs
+all-unflat P f [] h = tt
+all-unflat P f (x ∷ xs) h = (all-front P (f x) (flat_map f xs) h, all-unflat P f xs (all-back P (f x) (flat_map f xs) h))

@@ -7,3 +7,4 @@ pub mod Alone
 pub mod Growing
 pub mod SortNames
 pub mod SoundSort
+pub mod MoreSymbols
