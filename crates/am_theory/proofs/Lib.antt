@@ -8,3 +8,5 @@ pub mod Growing
 pub mod SortNames
 pub mod SoundSort
 pub mod MoreSymbols
+pub mod SoundSymbol
+pub mod SymbolNumbers
