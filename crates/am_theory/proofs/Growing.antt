@@ -78,7 +78,7 @@ module _ (reps more : List (Option Rep)) (kept : Keeps reps more) where
     }
 
     -- the sort of a literal's symbol stays
-    literal-sort : (l : LiteralDecl) (s : SortId) → LiteralSound reps symbols l → sort_at larger l.symbol ≡ Some s → sort_at symbols l.symbol ≡ Some s
+    pub literal-sort : (l : LiteralDecl) (s : SortId) → LiteralSound reps symbols l → sort_at larger l.symbol ≡ Some s → sort_at symbols l.symbol ≡ Some s
     literal-sort l s h e =
         let was = sort-at reps symbols l.symbol _ [] h.stands in
         let is = sort-at more larger l.symbol _ [] (stands-kept l.symbol _ [] h.stands) in

@@ -10,3 +10,4 @@ pub mod SoundSort
 pub mod MoreSymbols
 pub mod SoundSymbol
 pub mod SymbolNumbers
+pub mod SoundLiteral
