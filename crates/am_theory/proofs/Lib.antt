@@ -11,3 +11,5 @@ pub mod MoreSymbols
 pub mod SoundSymbol
 pub mod SymbolNumbers
 pub mod SoundLiteral
+pub mod MoreCalled
+pub mod SoundValue
