@@ -13,3 +13,4 @@ pub mod SymbolNumbers
 pub mod SoundLiteral
 pub mod MoreCalled
 pub mod SoundValue
+pub mod SoundRoutine
