@@ -14,3 +14,4 @@ pub mod SoundLiteral
 pub mod MoreCalled
 pub mod SoundValue
 pub mod SoundRoutine
+pub mod SoundAxiom
