@@ -151,8 +151,8 @@ pub distinct-append : (xs ns : List (List ℕ)) → are_distinct xs ≡ true →
 distinct-append xs ns e f h =
     let none : xs ++ [] ≡ xs = append-nil xs in
     let whole : differ bytes_eq names-turned (xs ++ (ns ++ [])) ≡ true =
-        between bytes_eq names-turned xs ns [] (ap (differ bytes_eq names-turned) none ∙ sym (distinct-differ xs) ∙ e) (sym (distinct-differ ns) ∙ f)
-        (subst (λ (ys : List (List ℕ)). AllByRecursion (λ n. is_among n ys ≡ false) ns) (sym none) h) in
+    between bytes_eq names-turned xs ns [] (ap (differ bytes_eq names-turned) none ∙ sym (distinct-differ xs) ∙ e) (sym (distinct-differ ns) ∙ f)
+    (subst (λ (ys : List (List ℕ)). AllByRecursion (λ n. is_among n ys ≡ false) ns) (sym none) h) in
     distinct-differ (xs ++ ns) ∙ ap (λ (ys : List (List ℕ)). differ bytes_eq names-turned (xs ++ ys)) (sym (append-nil ns)) ∙ whole
 
 -- one more name in between

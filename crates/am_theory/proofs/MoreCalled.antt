@@ -1,5 +1,5 @@
 -- One more routine or listed function with a name of its own.
-use Rattle.std.proofs.Common.{◌≡◌, ◌∙◌, ◌||◌, ℕ, true, false, List, [], ◌∷◌, ◌++◌, map, Option, refl, sym, ap, subst, append_assoc}
+use Rattle.std.proofs.Common.{◌≡◌, ◌∙◌, ℕ, false, List, [], ◌∷◌, ◌++◌, map, Option, refl, sym, ap, subst, append_assoc}
 use Rattle.std.specs.List.{AllByRecursion}
 use Rattle.std.proofs.lemmas.List.{map-append}
 use Rattle.am_term.specs.NameLists.{is_among, are_distinct}
@@ -25,7 +25,7 @@ module _ (c : Contents) (h : CalledSound c.routines c.functions c.copies) where
   function-called f e =
       let free : is_among f.name (called c.routines c.functions) ≡ false = none_left (is_among f.name (called c.routines c.functions)) (is_among f.name (listed c.copies)) e in
       let whole : called c.routines (c.functions ++ f ∷ []) ≡ called c.routines c.functions ++ f.name ∷ [] =
-          ap (λ ns. routine_names c.routines ++ ns) (map-append (λ (g : FortranFunction). g.name) c.functions (f ∷ [])) ∙ sym (append_assoc (routine_names c.routines) (function_names c.functions) (f.name ∷ [])) in
+      ap (λ ns. routine_names c.routines ++ ns) (map-append (λ (g : FortranFunction). g.name) c.functions (f ∷ [])) ∙ sym (append_assoc (routine_names c.routines) (function_names c.functions) (f.name ∷ [])) in
       record {
         distinct = ap are_distinct whole ∙ distinct-append (called c.routines c.functions) (f.name ∷ []) h.distinct refl (free, tt);
         apart = subst (AllByRecursion (IsUncopied c.copies)) (sym whole)
@@ -36,7 +36,7 @@ module _ (c : Contents) (h : CalledSound c.routines c.functions c.copies) where
   routine-called r e =
       let free : is_among r.name (called c.routines c.functions) ≡ false = none_left (is_among r.name (called c.routines c.functions)) (is_among r.name (listed c.copies)) e in
       let whole : called (c.routines ++ r ∷ []) c.functions ≡ (routine_names c.routines ++ r.name ∷ []) ++ function_names c.functions =
-          ap (λ ns. ns ++ function_names c.functions) (map-append (λ (q : Routine). q.name) c.routines (r ∷ [])) in
+      ap (λ ns. ns ++ function_names c.functions) (map-append (λ (q : Routine). q.name) c.routines (r ∷ [])) in
       record {
         distinct = ap are_distinct whole ∙ distinct-insert (routine_names c.routines) (function_names c.functions) r.name h.distinct free;
         apart = subst (AllByRecursion (IsUncopied c.copies)) (sym whole)

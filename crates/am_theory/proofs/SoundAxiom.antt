@@ -1,7 +1,7 @@
 -- After an axiom all is sound; and so after each declaration without a fault.
-use Rattle.std.proofs.Common.{◌≡◌, ◌∙◌, ◌+◌, ◌≤◌, ◌||◌, ℕ, Bool, true, false, not, Option, Some, None, List, [], ◌∷◌, ◌++◌, map, length, refl, sym, ap, subst, arith}
+use Rattle.std.proofs.Common.{◌≡◌, ◌∙◌, ◌+◌, ◌≤◌, ◌||◌, ℕ, Bool, true, false, not, Option, Some, List, [], ◌∷◌, map, length, refl, sym, ap, subst, arith}
 use Rattle.std.specs.Prelude.{nat_lt, if◌then◌else◌, IsTrue}
-use Rattle.std.specs.List.{AllByRecursion, list_any, list_all}
+use Rattle.std.specs.List.{AllByRecursion, list_any}
 use Rattle.std.specs.Str.{bytes_eq}
 use Rattle.std.proofs.lemmas.Bool.{ltb-false}
 use Rattle.std.proofs.lemmas.List.{length-append, length-map}
@@ -20,19 +20,19 @@ use Rattle.am_syntax.specs.declared.scope.Flaw.{Flaw}
 use Rattle.am_syntax.specs.declared.scope.Flaw.TheVariants as flaw
 use Rattle.am_syntax.specs.declared.written.WrittenFormula.{WrittenFormula}
 use Rattle.am_syntax.specs.Scopes.{standing_of}
-use Rattle.am_syntax.specs.Flaws.{formula_has, has_quantifier}
+use Rattle.am_syntax.specs.Flaws.{formula_has}
 use Rattle.am_syntax.specs.Meaning.{formula_meaning}
 use Rattle.am_syntax.proofs.Among.{none_left, none_right}
 use Rattle.am_theory.specs.declared.theory.Axiom.{Axiom}
 use Rattle.am_theory.specs.declared.declaration.Typed.{Typed}
 use Rattle.am_theory.specs.declared.declaration.Declaration.{Declaration}
 use Rattle.am_theory.specs.declared.declaration.Declaration.TheVariants as decl
-use Rattle.am_theory.specs.Contents.{Contents, sort_number, symbol_names, bound_from, axiom_scope, variable_of, nothing, with_decl}
-use Rattle.am_theory.specs.Faults.{has_unknown_name, is_unknown_sort, names_in, sorts_in, is_twice, is_symbol_name, axiom_names, has_bad_sort, has_bad_arity, has_unbound, quantifies, is_long_clause, has_many_clauses, is_over_limit, first_kind}
+use Rattle.am_theory.specs.Contents.{Contents, sort_number, bound_from, axiom_scope, variable_of, nothing, with_decl}
+use Rattle.am_theory.specs.Faults.{has_unknown_name, is_unknown_sort, names_in, sorts_in, is_twice, is_symbol_name, axiom_names, has_bad_sort, has_bad_arity, has_unbound, quantifies, is_long_clause, has_many_clauses, is_over_limit}
 use Rattle.am_theory.specs.Facts.{IsSmallClause}
 use Rattle.am_theory.specs.Limits.{axiom_limit, variable_limit, clause_limit, literal_limit}
-use Rattle.am_theory.specs.Traces.{IsOfForm, IsWritten, is_typed, Trace}
-use Rattle.am_theory.proofs.Appends.{all-push, all-both, all-map, all-unmap, all-weaker, all-passed, all-failed}
+use Rattle.am_theory.specs.Traces.{IsWritten, is_typed, Trace}
+use Rattle.am_theory.proofs.Appends.{all-push, all-map, all-unmap, all-weaker, all-passed, all-failed}
 use Rattle.am_theory.proofs.NoFault.{IsFaultless, faultless}
 use Rattle.am_theory.proofs.OfForm.{of_form}
 use Rattle.am_theory.proofs.Sound.{IsSortOf, FormulaSound, AxiomSound, Sound, names_of_symbols}

@@ -1,14 +1,12 @@
 -- After the declaration of a literal all is sound.
-use Rattle.std.proofs.Common.{◌≡◌, ◌∙◌, ◌+◌, ◌≤◌, ◌&&◌, ◌||◌, ℕ, Bool, true, false, not, Option, Some, None, List, [], ◌∷◌, ◌++◌, length, refl, sym, ap, subst, arith, slice_get, true≢false}
+use Rattle.std.proofs.Common.{◌≡◌, ◌∙◌, ℕ, true, false, Option, Some, None, List, [], ◌∷◌, ◌++◌, length, refl, sym, ap, arith, slice_get, true≢false}
 use Rattle.std.specs.Prelude.{ℤ, is_some, nat_le}
 use Rattle.std.specs.Ordering.{int_eq}
 use Rattle.std.specs.List.{AllByRecursion, Contains, list_all, list_any}
-use Rattle.std.specs.Str.{bytes_eq}
 use Rattle.std.proofs.lemmas.Option.{same_Some}
 use Rattle.std.proofs.lemmas.Bool.Decides.{Decides-int_eq}
 use Rattle.std.proofs.lemmas.List.Elements.{Contains-append_left, Contains-push}
 use Rattle.am_term.specs.declared.id.SortId.{SortId}
-use Rattle.am_term.specs.declared.id.SymId.{SymId}
 use Rattle.am_term.specs.declared.kind.SymKind.TheVariants as kind
 use Rattle.am_term.specs.Sorts.{akin_in}
 use Rattle.am_term.proofs.Tests.{and_both, and_right, false_not, never_both, same_tests}
@@ -29,7 +27,7 @@ use Rattle.am_theory.proofs.Appends.{before, behind, all-push, all-failed, all-a
 use Rattle.am_theory.proofs.NoFault.{IsFaultless}
 use Rattle.am_theory.proofs.Growing.{literal-sort}
 use Rattle.am_theory.proofs.MoreSymbols.{MayBeAdded, kept, symbols-larger, routines-larger, functions-larger, literals-larger, one-each-larger, axioms-larger, of-kind}
-use Rattle.am_theory.proofs.Sound.{IsConcreteIn, ProfileSound, LiteralSound, Sound, OneEach, LiteralsListed, sort_at, sort_rep}
+use Rattle.am_theory.proofs.Sound.{LiteralSound, Sound, OneEach, LiteralsListed, sort_at, sort_rep}
 use Rattle.am_theory.proofs.SortNames.{sort-there, rep-there}
 use Rattle.am_theory.proofs.SoundSymbol.{one-added, outputs-still, values-still}
 use Rattle.am_theory.proofs.SymbolNumbers.{literal-numbered}
@@ -113,7 +111,7 @@ module _ (c : Contents) (s : Sound c) (n : List ℕ) (w : List ℕ) (v : LitValu
     clash : (l : LiteralDecl) (r : SortId) → is_literal_of c (sort_number c w) v l ≡ false → sort_at c.symbols l.symbol ≡ Some r → sort_number c w ≡ r → same_value v l.value ≡ true → ⊥
     clash l r e a b i =
         let akin : is_akin_to c.parents (sort_number c w) (sort_at c.symbols l.symbol) ≡ true =
-            ap (is_akin_to c.parents (sort_number c w)) a ∙ ap (λ (q : SortId). akin_in c.parents (sort_number c w) q) (sym b) ∙ akin-itself c.parents s.of_sorts.alone (sort_number c w) in
+        ap (is_akin_to c.parents (sort_number c w)) a ∙ ap (λ (q : SortId). akin_in c.parents (sort_number c w) q) (sym b) ∙ akin-itself c.parents s.of_sorts.alone (sort_number c w) in
         never_both (is_literal_of c (sort_number c w) v l) (and_both (same_value v l.value) (is_akin_to c.parents (sort_number c w) (sort_at c.symbols l.symbol)) i akin) e
 
     earlier : (i : ℕ) (l : LiteralDecl) (r : SortId) → slice_get c.literals i ≡ Some l → sort_at larger l.symbol ≡ Some r → sort_at c.symbols l.symbol ≡ Some r

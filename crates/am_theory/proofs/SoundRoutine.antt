@@ -1,12 +1,11 @@
 -- After the declaration of a routine all is sound.
-use Rattle.std.proofs.Common.{◌≡◌, ◌∙◌, ◌+◌, ◌<◌, ◌≤◌, ◌||◌, ℕ, zero, suc, true, false, not, Option, Some, None, List, [], ◌∷◌, ◌++◌, map, length, refl, sym, ap, subst, arith, slice_get, append_assoc, true≢false}
+use Rattle.std.proofs.Common.{◌≡◌, ◌∙◌, ◌+◌, ◌<◌, ◌≤◌, ◌||◌, ℕ, zero, suc, true, false, not, Some, List, [], ◌∷◌, ◌++◌, map, length, refl, sym, ap, subst, arith, slice_get, append_assoc, true≢false}
 use Rattle.std.specs.Prelude.{nat_lt, slice_index_or}
 use Rattle.std.specs.List.{AllByRecursion, Contains, list_any}
 use Rattle.std.proofs.lemmas.Bool.{ltb-false}
 use Rattle.std.proofs.lemmas.List.{length-append, length-map}
 use Rattle.std.proofs.lemmas.List.Elements.{Contains-append_left, Contains-push}
 use Rattle.am_term.specs.declared.id.SymId.{SymId}
-use Rattle.am_term.specs.declared.kind.SymKind.{SymKind}
 use Rattle.am_term.specs.declared.kind.SymKind.TheVariants as kind
 use Rattle.am_term.specs.Names.{is_name}
 use Rattle.am_term.specs.NameLists.{is_among, are_distinct}
@@ -16,8 +15,6 @@ use Rattle.am_syntax.specs.Forms.{is_some_list}
 use Rattle.am_syntax.specs.Scopes.{Profile}
 use Rattle.am_syntax.proofs.Among.{none_left, none_right}
 use Rattle.am_theory.specs.declared.theory.Routine.{Routine}
-use Rattle.am_theory.specs.declared.theory.FortranFunction.{FortranFunction}
-use Rattle.am_theory.specs.declared.theory.LiteralDecl.{LiteralDecl}
 use Rattle.am_theory.specs.declared.declaration.Typed.{Typed}
 use Rattle.am_theory.specs.declared.declaration.Declaration.TheVariants as decl
 use Rattle.am_theory.specs.Contents.{Contents, sort_number, sort_numbers, output_profile, numbers_from, with_decl}
@@ -87,16 +84,18 @@ module _ (c : Contents) (s : Sound c) (n : List ℕ) (inputs : List (List ℕ)) 
   outputs-stand (o ∷ os) first k e h g =
       let y = output_profile c inputs o in
       let rest = map (output_profile c inputs) os in
-      let more : k + 1 ≡ length (first ++ y ∷ []) = ap (λ i. i + 1) e ∙ sym (length-append first (y ∷ [])) in
-      (record {
-        symbol = y;
-        there = ap (slice_get (first ++ y ∷ rest)) e ∙ get-end first rest y;
-        of_kind = refl;
-        with_args = refl;
-        sort = sort_number c o.sort;
-        result = refl;
-        concrete = concrete-there c o.sort h.0 g.0;
-      }, subst (λ symbols. AllByRecursion (Stands symbols) (numbers_from (k + 1) os)) (append_assoc first (y ∷ []) rest) (outputs-stand os (first ++ y ∷ []) (k + 1) more h.1 g.1))
+      let more : k + 1 ≡ length (first ++ y ∷ []) = ap (λ i. i + 1) e ∙ sym (length-append first (y ∷ [])) in (
+        record {
+          symbol = y;
+          there = ap (slice_get (first ++ y ∷ rest)) e ∙ get-end first rest y;
+          of_kind = refl;
+          with_args = refl;
+          sort = sort_number c o.sort;
+          result = refl;
+          concrete = concrete-there c o.sort h.0 g.0;
+        },
+        subst (λ symbols. AllByRecursion (Stands symbols) (numbers_from (k + 1) os)) (append_assoc first (y ∷ []) rest) (outputs-stand os (first ++ y ∷ []) (k + 1) more h.1 g.1),
+      )
 
   module _ (h : IsWritten (decl.Routine n inputs outs)) (f : IsFaultless c (decl.Routine n inputs outs)) where
     some_known : list_any (is_unknown_sort c) inputs ≡ false

@@ -1,13 +1,10 @@
 -- After the declaration of a function symbol or a relation all is sound.
-use Rattle.std.proofs.Common.{◌≡◌, ◌∙◌, ◌+◌, ◌≤◌, ◌||◌, ℕ, true, false, Option, Some, None, List, [], ◌∷◌, ◌++◌, map, length, refl, sym, ap, subst, arith, slice_get}
+use Rattle.std.proofs.Common.{◌≡◌, ◌+◌, ◌≤◌, ℕ, false, Some, None, List, [], ◌∷◌, ◌++◌, length, refl, sym, subst}
 use Rattle.std.specs.Prelude.{nat_lt}
-use Rattle.std.specs.List.{AllByRecursion, Contains, list_any}
+use Rattle.std.specs.List.{Contains, list_any}
 use Rattle.std.proofs.lemmas.Bool.{ltb-false}
 use Rattle.std.proofs.lemmas.List.{length-map}
-use Rattle.am_term.specs.declared.id.SortId.{SortId}
-use Rattle.am_term.specs.declared.kind.SymKind.{SymKind}
 use Rattle.am_term.specs.declared.kind.SymKind.TheVariants as kind
-use Rattle.am_term.specs.Names.{is_name}
 use Rattle.am_term.specs.NameLists.{is_among}
 use Rattle.am_syntax.specs.Scopes.{Profile}
 use Rattle.am_syntax.proofs.Among.{none_left, none_right}

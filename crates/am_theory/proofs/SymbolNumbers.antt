@@ -7,8 +7,6 @@ use Rattle.std.proofs.lemmas.List.{map-append, append-nil}
 use Rattle.std.proofs.lemmas.List.Concat.{flat_map-append}
 use Rattle.am_term.specs.declared.id.SymId.{SymId}
 use Rattle.am_term.specs.declared.kind.SymKind.TheVariants as kind
-use Rattle.am_syntax.specs.Scopes.{Profile}
-use Rattle.am_theory.specs.declared.theory.Rep.{Rep}
 use Rattle.am_theory.specs.declared.theory.Routine.{Routine}
 use Rattle.am_theory.specs.declared.theory.FortranFunction.{FortranFunction}
 use Rattle.am_theory.specs.declared.theory.LiteralDecl.{LiteralDecl}
@@ -60,8 +58,8 @@ from-distinct k [] = refl
 from-distinct k (o ∷ os) =
     let first : SymId = record { 0 = k } in
     let none : is_number_among first (numbers_from (k + 1) os) ≡ false =
-        none-passed (same_number first) (numbers_from (k + 1) os)
-        (all-weaker (IsFrom (k + 1)) (λ g. same_number first g ≡ false) (λ g h. later k first g refl h) (numbers_from (k + 1) os) (from-all (k + 1) (k + 1) os (omega arith))) in
+    none-passed (same_number first) (numbers_from (k + 1) os)
+    (all-weaker (IsFrom (k + 1)) (λ g. same_number first g ≡ false) (λ g h. later k first g refl h) (numbers_from (k + 1) os) (from-all (k + 1) (k + 1) os (omega arith))) in
     ap (λ b. not b && are_distinct_numbers (numbers_from (k + 1) os)) none ∙ from-distinct (k + 1) os
 
 -- ---- what was declared so far

@@ -10,8 +10,10 @@
 
 mod declaration;
 mod fault;
+mod laws;
 mod theory;
 
 pub use declaration::{Declaration, Typed, WrittenRep};
 pub use fault::{TheoryFault, TheoryKind};
+pub use laws::theories_that_were_read_are_well_formed;
 pub use theory::{Axiom, FortranFunction, LitValue, LiteralDecl, Rep, Routine, Theory};
