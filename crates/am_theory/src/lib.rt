@@ -19,6 +19,7 @@ mod kinds;
 mod limits;
 mod reps;
 mod tables;
+mod laws;
 mod theory;
 mod writing;
 
@@ -28,6 +29,7 @@ pub use laws_of_declarations::{
     places_do_not_count, read_declarations_are_no_higher, read_declarations_can_be_spelled,
     spelled_declarations_are_read, spelled_declarations_can_be_written,
 };
+pub use laws::theories_that_were_read_are_well_formed;
 pub use theory::{Axiom, FortranFunction, LitValue, LiteralDecl, Rep, Routine, Theory};
 pub use writing::write_theory;
 
