@@ -29,6 +29,14 @@ pub none-also : {A : Type 0} (p q : A → Bool) → ((x : A) → p x ≡ false �
 none-also p q f [] e = refl
 none-also p q f (x ∷ xs) e = none_both (q x) (list_any q xs) (f x (none_left (p x) (list_any p xs) e)) (none-also p q f xs (none_right (p x) (list_any p xs) e))
 
+-- where no member passes either of two tests, none passes one that fails where both do
+pub none-either : {A : Type 0} (p q r : A → Bool) → ((x : A) → p x ≡ false → q x ≡ false → r x ≡ false) → (xs : List A) → list_any p xs ≡ false → list_any q xs ≡ false → list_any r xs ≡ false
+none-either p q r f [] e h = refl
+none-either p q r f (x ∷ xs) e h =
+    none_both (r x) (list_any r xs)
+    (f x (none_left (p x) (list_any p xs) e) (none_left (q x) (list_any q xs) h))
+    (none-either p q r f xs (none_right (p x) (list_any p xs) e) (none_right (q x) (list_any q xs) h))
+
 -- two tests with the same answers
 pub any-same : {A : Type 0} (p q : A → Bool) → ((x : A) → p x ≡ q x) → (xs : List A) → list_any p xs ≡ list_any q xs
 any-same p q f [] = refl

@@ -1,3 +1,4 @@
+pub mod AxiomKept
 pub mod Called
 pub mod Clean
 pub mod CleanSymbol
@@ -6,5 +7,7 @@ pub mod KnownSorts
 pub mod MoreSorts
 pub mod Parents
 pub mod Positions
-pub mod SortFirst
+pub mod SortBeforeAxiom
+pub mod SortBeforeSymbol
 pub mod Swapped
+pub mod SymbolBeforeAxiom

@@ -172,36 +172,36 @@ module _ (c : Contents) (n : List ℕ) (r : Option WrittenRep) (copy : Option (L
       (sym (profile-kept m args s kind.Value (none_left (list_any (is_unknown_sort c) args) (is_unknown_sort c s) e) (none_right (list_any (is_unknown_sort c) args) (is_unknown_sort c s) e)))
 
   -- ---- all kinds
-  pub sort-first : (d : Declaration) → DeclaresSymbol d → IsClean c d → IsClean (with_decl c d) (decl.Sort n r copy) → IsSwapped c d (decl.Sort n r copy)
+  pub sort_first-symbol : (d : Declaration) → DeclaresSymbol d → IsClean c d → IsClean (with_decl c d) (decl.Sort n r copy) → IsSwapped c d (decl.Sort n r copy)
   unfolding with_decl clashes
-  sort-first (decl.Sort m q o) h k l = absurd h
-  sort-first (decl.Function m args s) h k l = record {
+  sort_first-symbol (decl.Sort m q o) h k l = absurd h
+  sort_first-symbol (decl.Function m args s) h k l = record {
     before = sort-before (with_decl c (decl.Function m args s)) refl (λ w e. e) l;
     behind = function-behind m args s k;
     same = function-same m args s k.known;
   }
-  sort-first (decl.Relation m args) h k l = record {
+  sort_first-symbol (decl.Relation m args) h k l = record {
     before = sort-before (with_decl c (decl.Relation m args)) refl (λ w e. e) l;
     behind = relation-behind m args k;
     same = relation-same m args k.known;
   }
-  sort-first (decl.Literal m s v) h k l = record {
+  sort_first-symbol (decl.Literal m s v) h k l = record {
     before = sort-before (with_decl c (decl.Literal m s v)) refl (λ w e. e) l;
     behind = literal-behind m s v k;
     same = literal-same m s v k.known;
   }
-  sort-first (decl.Routine m inputs outputs) h k l =
+  sort_first-symbol (decl.Routine m inputs outputs) h k l =
       let ρ : Routine = record { name = m; inputs = sort_numbers c inputs; outputs = numbers_from (length c.symbols) outputs } in
       record {
         before = sort-before (with_decl c (decl.Routine m inputs outputs)) refl (λ w e. uncalled-routine w c.routines c.functions ρ e) l;
         behind = routine-behind m inputs outputs (unlike_by_routine ρ copy l.apart) k;
         same = routine-same m inputs outputs k.known;
       }
-  sort-first (decl.Value f m args s) h k l =
+  sort_first-symbol (decl.Value f m args s) h k l =
       let φ : FortranFunction = record { name = f; symbol = next_symbol c } in
       record {
         before = sort-before (with_decl c (decl.Value f m args s)) refl (λ w e. uncalled-function w c.routines c.functions φ e) l;
         behind = value-behind f m args s (unlike_by_function φ copy l.apart) k;
         same = value-same f m args s k.known;
       }
-  sort-first (decl.Axiom vs g) h k l = absurd h
+  sort_first-symbol (decl.Axiom vs g) h k l = absurd h
