@@ -1,13 +1,16 @@
 pub mod AxiomKept
+pub mod AxiomsBack
 pub mod Called
 pub mod Clean
 pub mod CleanSymbol
 pub mod Joined
 pub mod KnownSorts
 pub mod MoreSorts
+pub mod OrderedRun
 pub mod Parents
 pub mod Positions
 pub mod SortBeforeAxiom
 pub mod SortBeforeSymbol
+pub mod SortsBack
 pub mod Swapped
 pub mod SymbolBeforeAxiom
