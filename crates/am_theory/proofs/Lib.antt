@@ -3,6 +3,7 @@ pub mod AxiomsBack
 pub mod Called
 pub mod Clean
 pub mod CleanSymbol
+pub mod Grown
 pub mod Joined
 pub mod KnownSorts
 pub mod MoreSorts
@@ -14,3 +15,4 @@ pub mod SortBeforeSymbol
 pub mod SortsBack
 pub mod Swapped
 pub mod SymbolBeforeAxiom
+pub mod SymbolsBack
