@@ -3,6 +3,7 @@ pub mod AxiomsBack
 pub mod Called
 pub mod Clean
 pub mod CleanSymbol
+pub mod DeclaredAgain
 pub mod Grown
 pub mod Joined
 pub mod KnownSorts
