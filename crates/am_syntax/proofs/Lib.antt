@@ -1,9 +1,13 @@
 pub mod Among
 pub mod Equations
+pub mod FormEquations
+pub mod FormulaEquations
 pub mod FromScope
 pub mod Known
 pub mod Larger
 pub mod LargerFormula
+pub mod Positions
+pub mod ShapeEquations
 pub mod WellSorted
 pub mod WellSortedFormula
 pub mod WrittenBack

@@ -4,6 +4,7 @@ pub mod FoldFormula
 pub mod Induct
 pub mod InductFormula
 pub mod Shapes
+pub mod Heads
 pub mod Forms
 pub mod Scopes
 pub mod Flaws

@@ -6,15 +6,19 @@
 //! again. The format is this project's own. The crate rests on `am_term` and `am_text`.
 #![tactic(auto)]
 
+mod forms;
 mod laws;
 mod scope;
+mod shapes;
 mod table;
 mod written;
 
+pub use forms::{atom_form, formula_form, term_form};
 pub use laws::{
     in_a_larger_scope_nothing_changes, variables_are_of_the_scope, what_has_no_flaw_is_well_sorted,
     what_is_meant_is_written_back,
 };
 pub use scope::{Bound, Flaw, Scope, Standing};
+pub use shapes::{formula_of, literal_of, term_of};
 pub use table::NameTable;
 pub use written::{Words, WrittenAtom, WrittenFormula, WrittenLiteral, WrittenTerm};

@@ -25,7 +25,7 @@ use Rattle.am_theory.specs.Contents.{Contents, sort_number, symbol_names, bound_
 use Rattle.am_theory.specs.Faults.{sorts_in, names_in, is_unknown_sort, quantifies}
 use Rattle.am_theory.specs.CanonicalText.{sort_name, typed_variable, axiom_naming, written_axiom}
 use Rattle.am_theory.specs.Traces.{Trace, IsOfForm}
-use Rattle.am_theory.proofs.Positions.{same, position_there}
+use Rattle.am_syntax.proofs.Positions.{same, position_there}
 use Rattle.am_theory.proofs.Clean.{IsClean, clean_from}
 use Rattle.am_theory.proofs.KnownSorts.{name-back}
 use Rattle.am_theory.proofs.AxiomKept.{variables-known, heads-known, names-bound}

@@ -11,7 +11,7 @@ use Rattle.am_syntax.proofs.Among.{none_left, none_right}
 use Rattle.am_theory.specs.Contents.{Contents, id_of, sort_number, sort_numbers}
 use Rattle.am_theory.specs.Faults.{is_unknown_sort}
 use Rattle.am_theory.specs.CanonicalText.{sort_name, sort_names}
-use Rattle.am_theory.proofs.Positions.{position_among, position_there}
+use Rattle.am_syntax.proofs.Positions.{position_among, position_there}
 
 pub record IsPlaced (w : List ℕ) (ws : List (List ℕ)) : Type 0 where
   pub place : ℕ

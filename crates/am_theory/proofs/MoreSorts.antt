@@ -18,7 +18,7 @@ use Rattle.am_theory.specs.declared.declaration.Typed.{Typed}
 use Rattle.am_theory.specs.Lookups.{known}
 use Rattle.am_theory.specs.Contents.{Contents, id_of, sort_number, sort_numbers}
 use Rattle.am_theory.specs.Faults.{is_unknown_sort, rep_at, rep_named, is_abstract, suits, is_returnable, same_value, is_akin_to, sort_of_symbol, is_literal_of}
-use Rattle.am_theory.proofs.Positions.{position_kept}
+use Rattle.am_syntax.proofs.Positions.{position_kept}
 use Rattle.am_theory.proofs.Joined.{slice_get-front, any-same, none-also}
 use Rattle.am_theory.proofs.KnownSorts.{IsPlaced, placed}
 use Rattle.am_theory.proofs.Parents.{one_more, akin-pushed}

@@ -24,7 +24,7 @@ use Rattle.am_theory.specs.declared.declaration.Declaration.{Declaration}
 use Rattle.am_theory.specs.declared.declaration.Declaration.TheVariants as decl
 use Rattle.am_theory.specs.Contents.{Contents, sort_number, sort_numbers, symbol_names, axiom_scope, variable_of, output_profile, numbers_from, next_symbol, with_decl}
 use Rattle.am_theory.specs.Faults.{names_in, has_unknown_name, axiom_names, variable_names, is_symbol_name, is_taken, is_literal_of, is_twice, is_badly_represented, clashes, is_over_limit}
-use Rattle.am_theory.proofs.Positions.{position_kept}
+use Rattle.am_syntax.proofs.Positions.{position_kept}
 use Rattle.am_theory.proofs.Clean.{IsClean}
 use Rattle.am_theory.proofs.CleanSymbol.{symbol-clean}
 use Rattle.am_theory.proofs.Joined.{none_both, none-front, none-behind, none-also, none-either, slice_get-front, apart-turned}
