@@ -1,7 +1,6 @@
 -- Which form a term and a formula is, and which can be one, by their kinds.
-use Rattle.std.proofs.Common.{◌≡◌, ℕ, Bool, true, List, [], ◌∷◌, map, sym, ap, ◌∙◌}
+use Rattle.std.proofs.Common.{◌≡◌, ℕ, Bool, true, List, [], ◌∷◌, map}
 use Rattle.std.specs.Prelude.{◌&&◌, ◌||◌, codes}
-use Rattle.std.specs.List.{list_all}
 use Rattle.std.proofs.lemmas.List.{map_more}
 use Rattle.std.proofs.lemmas.Grind.{common_steps}
 use Rattle.am_term.specs.Names.{is_name}
@@ -11,14 +10,13 @@ use Rattle.am_syntax.specs.declared.written.WrittenTerm.{WrittenTerm}
 use Rattle.am_syntax.specs.declared.written.WrittenTerm.TheViews.{the_lemmas}
 use Rattle.am_syntax.specs.declared.written.WrittenTerm.TheVariants.{Alone, Headed}
 use Rattle.am_syntax.specs.declared.written.WrittenAtom.{WrittenAtom}
-use Rattle.am_syntax.specs.declared.written.WrittenAtom.TheVariants.{Equation, Relation}
 use Rattle.am_syntax.specs.declared.written.WrittenFormula.{WrittenFormula}
 use Rattle.am_syntax.specs.declared.written.WrittenFormula.TheViews.{the_lemmas as formula_lemmas}
 use Rattle.am_syntax.specs.declared.written.WrittenFormula.TheVariants as made
 use Rattle.am_syntax.specs.Fold.{fold-Alone, fold-Headed}
 use Rattle.am_syntax.specs.FoldFormula.{fold-Atom, fold-Not, fold-And, fold-Or, fold-Implies, fold-Iff, fold-Quantified}
 use Rattle.am_syntax.specs.Shapes.{may_stand}
-use Rattle.am_syntax.specs.Forms.{word_form, list_form, headed_form, term_form, term_form_step, atom_form, formula_form, formula_form_step, is_some_list, all_true, is_spellable, spellable_step, is_spellable_atom, is_spellable_formula, spellable_formula_step}
+use Rattle.am_syntax.specs.Forms.{word_form, headed_form, term_form, term_form_step, atom_form, formula_form, formula_form_step, is_some_list, all_true, is_spellable, spellable_step, is_spellable_atom, is_spellable_formula, spellable_formula_step}
 use Rattle.am_syntax.specs.Flaws.{any_true, has_quantifier, quantifier_step}
 
 -- ---- the form of a term

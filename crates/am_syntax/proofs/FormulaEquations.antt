@@ -1,11 +1,10 @@
 -- Which formula a form is, by the head of its list.
-use Rattle.std.proofs.Common.{◌≡◌, ℕ, Bool, true, false, List, [], ◌∷◌, ◌++◌, map, Option, Some, None, refl, sym, ap, ◌∙◌}
-use Rattle.std.specs.Prelude.{◌≢◌, ◌||◌, codes, option_map, if◌then◌else◌}
+use Rattle.std.proofs.Common.{◌≡◌, ℕ, Bool, true, false, List, [], ◌∷◌, ◌++◌, Option, Some, None, refl, sym, ap, ◌∙◌}
+use Rattle.std.specs.Prelude.{codes, option_map, if◌then◌else◌}
 use Rattle.std.proofs.lemmas.Grind.{common_steps}
 use Rattle.std.specs.Str.{bytes_eq}
 use Rattle.am_term.specs.Names.{is_name}
 use Rattle.am_text.specs.declared.form.FormNode.TheViews.{the_lemmas as form_lemmas}
-use Rattle.am_syntax.specs.declared.written.Words.{Words}
 use Rattle.am_syntax.specs.declared.written.WrittenTerm.{WrittenTerm}
 use Rattle.am_syntax.specs.declared.written.WrittenAtom.TheVariants.{Equation, Relation}
 use Rattle.am_syntax.specs.declared.written.WrittenFormula.{WrittenFormula}
@@ -14,8 +13,8 @@ use Rattle.am_syntax.specs.declared.written.WrittenFormula.TheVariants as made
 use Rattle.am_syntax.specs.declared.shapes.Connective.TheVariants.{Not, And, Or, Implies, Iff}
 use Rattle.am_syntax.specs.declared.shapes.Head.{Head}
 use Rattle.am_syntax.specs.declared.shapes.Head.TheVariants.{Joined, Equals, Quantifier, Related, Other}
-use Rattle.am_syntax.specs.Shapes.{with_first, all_of, some_of, one_of, two_of, pair_of, headed_formula, is_quantifier}
-use Rattle.am_syntax.specs.Heads.{word_of, name_of, head_of, kind_of, some_in, only_in, two_in, joined, equation_from, relation_from, formula_by, formula_of_head}
+use Rattle.am_syntax.specs.Shapes.{with_first, all_of, some_of, one_of, two_of, pair_of, is_quantifier}
+use Rattle.am_syntax.specs.Heads.{name_of, head_of, some_in, only_in, two_in, joined, equation_from, formula_by, formula_of_head}
 use Rattle.am_syntax.proofs.ShapeEquations.{no_formula, some_is, formula-at, formula-Word, formula-Number, formula-Text, formula-nil, formula-cons, word-Word, word-Number, word-Text, word-List, all_more, all_fails}
 
 -- ---- one and two members, among all

@@ -11,3 +11,11 @@ pub mod ShapeEquations
 pub mod WellSorted
 pub mod WellSortedFormula
 pub mod WrittenBack
+pub mod FlawSteps
+pub mod FormulaSteps
+pub mod Looking
+pub mod MeaningSteps
+pub mod NamingSteps
+pub mod PlacesAside
+pub mod SpelledRead
+pub mod ReadSpelled

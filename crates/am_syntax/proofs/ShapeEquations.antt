@@ -1,15 +1,15 @@
 -- Which term and which formula a form is, by its node.
-use Rattle.std.proofs.Common.{◌≡◌, ℕ, zero, suc, ◌+◌, ◌<◌, Bool, true, false, List, [], ◌∷◌, ◌++◌, length, map, take, drop, get_or, Option, Some, None, refl, sym, ap, subst, ◌∙◌, arith, add-one}
+use Rattle.std.proofs.Common.{◌≡◌, ℕ, zero, suc, ◌+◌, ◌<◌, Bool, true, false, List, [], ◌∷◌, ◌++◌, length, map, take, get_or, Option, Some, None, refl, sym, ap, ◌∙◌, arith}
 use Rattle.std.specs.Prelude.{ℤ, option_map, if◌then◌else◌}
-use Rattle.std.proofs.lemmas.List.{map_more, length-map, length-take-le}
+use Rattle.std.proofs.lemmas.List.{map_more}
 use Rattle.std.proofs.lemmas.Grind.{common_steps}
 use Rattle.am_term.specs.Names.{is_name}
 use Rattle.am_text.specs.declared.form.Form.{Form}
 use Rattle.am_text.specs.declared.form.FormNode.{FormNode}
 use Rattle.am_text.specs.declared.form.FormNode.TheVariants as node
 use Rattle.am_text.specs.declared.form.FormNode.TheVariants.{rolls-Word, rolls-Number, rolls-Text, rolls-List, outs-Word, outs-Number, outs-Text, outs-List}
-use Rattle.am_text.specs.declared.form.FormNode.TheFolds.{fold-Form, fold-FormNode, fold-roll-Form, fold-roll-FormNode}
-use Rattle.am_text.specs.declared.form.FormNode.TheOpen.{FormNode-F, Form-F}
+use Rattle.am_text.specs.declared.form.FormNode.TheFolds.{fold-FormNode, fold-roll-Form, fold-roll-FormNode}
+use Rattle.am_text.specs.declared.form.FormNode.TheOpen.{FormNode-F}
 use Rattle.am_text.specs.declared.form.FormNode.TheViews.{the_lemmas, roll-FormNode}
 use Rattle.am_text.proofs.FormInduct.{node_induct}
 use Rattle.am_syntax.specs.declared.written.Words.{Words}

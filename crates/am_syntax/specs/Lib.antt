@@ -13,3 +13,4 @@ pub mod Naming
 pub mod Sorted
 pub mod Occurring
 pub mod Laws
+pub mod ShapeLaws

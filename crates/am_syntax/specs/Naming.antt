@@ -8,6 +8,7 @@ use Rattle.am_term.specs.declared.term.Atom.TheVariants.{Rel, Eq}
 use Rattle.am_term.specs.declared.term.Formula.{Formula}
 use Rattle.am_term.specs.declared.term.Formula.TheOpen.{Formula-F}
 use Rattle.am_term.specs.declared.term.Formula.TheFolds.{fold-Formula}
+use Rattle.am_syntax.specs.declared.naming.Naming.{Naming as CodeNaming}
 use Rattle.am_syntax.specs.declared.written.WrittenTerm.{WrittenTerm}
 use Rattle.am_syntax.specs.declared.written.WrittenTerm.TheVariants.{Alone, Headed}
 use Rattle.am_syntax.specs.declared.written.WrittenAtom.{WrittenAtom}
@@ -20,6 +21,10 @@ pub record Naming : Type 0 where
   pub variables : List (List ℕ)
   pub inputs : List (List ℕ)
   pub symbols : List (List ℕ)
+
+-- the names that the code hands on
+abbrev pub naming_of : CodeNaming → Naming
+naming_of n = record { variables = map (λ d. d.0) n.variables.now; inputs = map (λ d. d.0) n.inputs.now; symbols = map (λ y. y.name) n.symbols.now }
 
 -- a symbol's name alone, or with its arguments
 abbrev pub applied : List ℕ → List WrittenTerm → WrittenTerm

@@ -335,10 +335,7 @@ fn relation(
         return Ok(None);
     }
     let name = Name::new(alloc, name.as_str())?;
-    Ok(Some(WrittenFormula::Atom(WrittenAtom::Relation {
-        name,
-        args,
-    })))
+    Ok(Some(WrittenFormula::Atom(WrittenAtom::Relation { name, args })))
 }
 
 fn lone_formula(alloc: Global, word: &Name) -> Result<Option<WrittenFormula>, NoMemory>
@@ -349,10 +346,7 @@ fn lone_formula(alloc: Global, word: &Name) -> Result<Option<WrittenFormula>, No
     }
     let name = Name::new(alloc, word.as_str())?;
     let args = Items::new(alloc);
-    Ok(Some(WrittenFormula::Atom(WrittenAtom::Relation {
-        name,
-        args,
-    })))
+    Ok(Some(WrittenFormula::Atom(WrittenAtom::Relation { name, args })))
 }
 
 /// The literal that a form is: an atom, or `(not A)`.
@@ -414,7 +408,11 @@ fn two<T: Drop>(items: Items<T>) -> Option<(T, T)>
     let Some(left) = items.pop() else {
         return None;
     };
-    if items.is_empty() { Some((left, right)) } else { None }
+    if items.is_empty() {
+        Some((left, right))
+    } else {
+        None
+    }
 }
 
 fn stands_alone(words: Words, word: &Name) -> bool

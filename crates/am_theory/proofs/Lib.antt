@@ -6,9 +6,12 @@ pub mod Called
 pub mod Clean
 pub mod CleanSymbol
 pub mod DeclaredAgain
+mod Distinct
+pub mod FormParts
 pub mod Growing
 pub mod Grown
 pub mod Joined
+mod KindSteps
 pub mod KnownSorts
 pub mod MoreSorts
 pub mod MoreSymbols

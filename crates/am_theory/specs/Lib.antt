@@ -1,3 +1,4 @@
+pub mod AxiomScope
 pub mod Canonical
 pub mod CanonicalText
 pub mod Contents

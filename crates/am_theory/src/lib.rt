@@ -9,7 +9,14 @@
 #![tactic(auto)]
 
 mod declaration;
+mod declaration_forms;
 mod fault;
+mod shapes;
+mod fortran;
+mod kinds;
+mod limits;
+mod reps;
+mod tables;
 mod theory;
 
 pub use declaration::{Declaration, Typed, WrittenRep};

@@ -1,0 +1,231 @@
+ghost use Rattle.std.specs.Prelude.{◌≡◌, ◌++◌, [], ◌∷◌, pos, IfOk, OnOk, map, codes};
+ghost use Rattle.am_syntax.specs.Forms.{word_form, list_form, headed_form};
+ghost use Rattle.am_theory.specs.CanonicalText.{number_form, value_form, names_form, typed_form, rep_form, rep_forms, version_form};
+
+use crate::declaration::{Declaration, Typed, WrittenRep};
+use crate::theory::LitValue;
+use am_term::{Name, NoMemory};
+use am_text::{Form, FormNode};
+use sqlite_items::Items;
+use std::alloc::Global;
+
+fn word_form(alloc: Global, word: &str) -> Result<Form, NoMemory>
+    ensures { IfOk result (λ f. f ≡ word_form word.now) }
+{
+    let word = Name::new(alloc, word)?;
+    Ok(Form {
+        place: 0,
+        node: FormNode::Word(word),
+    })
+}
+
+fn number_form(number: i64) -> Form
+    ensures { result ≡ number_form number }
+{
+    Form {
+        place: 0,
+        node: FormNode::Number(number),
+    }
+}
+
+fn list_form(members: Items<Form>) -> Form
+    ensures { result ≡ list_form members }
+{
+    Form {
+        place: 0,
+        node: FormNode::List(members),
+    }
+}
+
+fn value_form(alloc: Global, value: &LitValue) -> Result<Form, NoMemory>
+    ensures { IfOk result (λ f. f ≡ value_form value.now) }
+{
+    match value {
+        LitValue::Int(number) => Ok(number_form(*number)),
+        LitValue::Text(text) => {
+            let text = Name::new(alloc, text.as_str())?;
+            Ok(Form {
+                place: 0,
+                node: FormNode::Text(text),
+            })
+        }
+    }
+}
+
+#[tactic(auto, using(crate::proofs::FormParts::map_laws))]
+fn names_form(alloc: Global, names: &[Name]) -> Result<Form, NoMemory>
+    ensures { IfOk result (λ f. f ≡ names_form names.now) }
+{
+    let mut members = Items::new(alloc);
+    for name in names {
+        members.push(word_form(alloc, name.as_str())?)?;
+    }
+    Ok(list_form(members))
+}
+
+fn typed_form(alloc: Global, typed: &Typed) -> Result<Form, NoMemory>
+    ensures { IfOk result (λ f. f ≡ typed_form typed.now) }
+{
+    let members = two_words(alloc, typed.name.as_str(), &typed.sort)?;
+    Ok(list_form(members))
+}
+
+// The forms of names with their sorts, behind what is there.
+#[tactic(auto, using(crate::proofs::FormParts::map_laws))]
+fn push_typed(alloc: Global, members: &mut Items<Form>, all: &[Typed]) -> Result<(), NoMemory>
+    ensures { OnOk result (members.new ≡ members.old ++ map typed_form all.now) }
+{
+    for typed in all {
+        members.push(typed_form(alloc, typed)?)?;
+    }
+    Ok(())
+}
+
+// The forms of a head and a word behind it.
+fn two_words(alloc: Global, head: &str, word: &Name) -> Result<Items<Form>, NoMemory>
+    ensures { IfOk result (λ fs. fs ≡ word_form head.now ∷ word_form word.now ∷ []) }
+{
+    let mut members = Items::new(alloc);
+    members.push(word_form(alloc, head)?)?;
+    members.push(word_form(alloc, word.as_str())?)?;
+    Ok(members)
+}
+
+fn rep_form(alloc: Global, rep: WrittenRep) -> Result<Form, NoMemory>
+    ensures { IfOk result (λ f. f ≡ rep_form rep) }
+{
+    match rep {
+        WrittenRep::Double => word_form(alloc, "double"),
+        WrittenRep::Integer => word_form(alloc, "integer"),
+        WrittenRep::Logical => word_form(alloc, "logical"),
+        WrittenRep::Char(length) => one_number(alloc, "char", length),
+        WrittenRep::DoubleVec(extent) => one_number(alloc, "double", extent),
+        WrittenRep::DoubleMat(rows, columns) => two_numbers(alloc, "double", rows, columns),
+        WrittenRep::IntegerVec(extent) => one_number(alloc, "integer", extent),
+    }
+}
+
+fn one_number(alloc: Global, head: &str, number: i64) -> Result<Form, NoMemory>
+    ensures { IfOk result (λ f. f ≡ headed_form head.now (number_form number ∷ [])) }
+{
+    let mut members = Items::new(alloc);
+    members.push(word_form(alloc, head)?)?;
+    members.push(number_form(number))?;
+    Ok(list_form(members))
+}
+
+fn two_numbers(alloc: Global, head: &str, first: i64, second: i64) -> Result<Form, NoMemory>
+    ensures { IfOk result (λ f. f ≡ headed_form head.now (number_form first ∷ number_form second ∷ [])) }
+{
+    let mut members = Items::new(alloc);
+    members.push(word_form(alloc, head)?)?;
+    members.push(number_form(first))?;
+    members.push(number_form(second))?;
+    Ok(list_form(members))
+}
+
+// The representation and the copy routine of a sort, behind what is there.
+fn push_rep(
+    alloc: Global,
+    members: &mut Items<Form>,
+    rep: &Option<WrittenRep>,
+    copy: &Option<Name>,
+) -> Result<(), NoMemory>
+    ensures { OnOk result (members.new ≡ members.old ++ rep_forms rep.now copy.now) }
+{
+    match (rep, copy) {
+        (None, _) => {}
+        (Some(rep), None) => members.push(rep_form(alloc, *rep)?)?,
+        (Some(rep), Some(copy)) => {
+            members.push(rep_form(alloc, *rep)?)?;
+            members.push(word_form(alloc, copy.as_str())?)?;
+        }
+    }
+    Ok(())
+}
+
+fn sort_form(
+    alloc: Global,
+    name: &Name,
+    rep: &Option<WrittenRep>,
+    copy: &Option<Name>,
+) -> Result<Form, NoMemory>
+    ensures { IfOk result (λ f. f ≡ headed_form (codes "sort") (word_form name.now ∷ rep_forms rep.now copy.now)) }
+{
+    let mut members = two_words(alloc, "sort", name)?;
+    push_rep(alloc, &mut members, rep, copy)?;
+    Ok(list_form(members))
+}
+
+fn function_form(
+    alloc: Global,
+    name: &Name,
+    args: &[Name],
+    sort: &Name,
+) -> Result<Form, NoMemory>
+    ensures { IfOk result (λ f. f ≡ headed_form (codes "function") (word_form name.now ∷ names_form args.now ∷ word_form sort.now ∷ [])) }
+{
+    let mut members = two_words(alloc, "function", name)?;
+    members.push(names_form(alloc, args)?)?;
+    members.push(word_form(alloc, sort.as_str())?)?;
+    Ok(list_form(members))
+}
+
+fn relation_form(alloc: Global, name: &Name, args: &[Name]) -> Result<Form, NoMemory>
+    ensures { IfOk result (λ f. f ≡ headed_form (codes "relation") (word_form name.now ∷ names_form args.now ∷ [])) }
+{
+    let mut members = two_words(alloc, "relation", name)?;
+    members.push(names_form(alloc, args)?)?;
+    Ok(list_form(members))
+}
+
+fn literal_form(
+    alloc: Global,
+    name: &Name,
+    sort: &Name,
+    value: &LitValue,
+) -> Result<Form, NoMemory>
+    ensures { IfOk result (λ f. f ≡ headed_form (codes "literal") (word_form name.now ∷ word_form sort.now ∷ value_form value.now ∷ [])) }
+{
+    let mut members = two_words(alloc, "literal", name)?;
+    members.push(word_form(alloc, sort.as_str())?)?;
+    members.push(value_form(alloc, value)?)?;
+    Ok(list_form(members))
+}
+
+fn routine_form(
+    alloc: Global,
+    name: &Name,
+    inputs: &[Name],
+    outputs: &[Typed],
+) -> Result<Form, NoMemory>
+    ensures { IfOk result (λ f. f ≡ headed_form (codes "routine") (word_form name.now ∷ names_form inputs.now ∷ map typed_form outputs.now)) }
+{
+    let mut members = two_words(alloc, "routine", name)?;
+    members.push(names_form(alloc, inputs)?)?;
+    push_typed(alloc, &mut members, outputs)?;
+    Ok(list_form(members))
+}
+
+fn value_decl_form(
+    alloc: Global,
+    function: &Name,
+    name: &Name,
+    args: &[Name],
+    sort: &Name,
+) -> Result<Form, NoMemory>
+    ensures { IfOk result (λ f. f ≡ headed_form (codes "value") (word_form function.now ∷ word_form name.now ∷ names_form args.now ∷ word_form sort.now ∷ [])) }
+{
+    let mut members = two_words(alloc, "value", function)?;
+    members.push(word_form(alloc, name.as_str())?)?;
+    members.push(names_form(alloc, args)?)?;
+    members.push(word_form(alloc, sort.as_str())?)?;
+    Ok(list_form(members))
+}
+
+/// The first form of a theory file.
+pub fn version_form(alloc: Global) -> Result<Form, NoMemory>
+    ensures { IfOk result (λ f. f ≡ version_form) }
+{
+    one_number(alloc, "theory", 1)
+}

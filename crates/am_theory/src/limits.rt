@@ -1,0 +1,107 @@
+ghost use Rattle.std.specs.Prelude.{◌≡◌, ◌||◌, ◌+◌, IfOk, nat_lt};
+ghost use Rattle.std.specs.List.{list_any};
+ghost use Rattle.am_syntax.specs.Scopes.{scope_of};
+ghost use Rattle.am_theory.specs.AxiomScope.{scope_in};
+ghost use Rattle.am_theory.specs.Contents.{contents};
+ghost use Rattle.am_theory.specs.Limits.{argument_limit, output_limit, call_limit};
+ghost use Rattle.am_theory.specs.Faults.{is_long_clause, has_many_clauses, is_past_symbols, is_over_limit};
+
+use crate::declaration::Declaration;
+use crate::tables::Tables;
+use am_clause::{Clause, ClauseFault, clauses_of, formula_variables, law_of_count};
+use am_syntax::{Scope, formula_meaning};
+use am_term::{Formula, NoMemory};
+use std::alloc::Global;
+
+const SORT_LIMIT: usize = 256;
+
+const SYMBOL_LIMIT: usize = 4096;
+
+const AXIOM_LIMIT: usize = 2000;
+
+const VARIABLE_LIMIT: usize = 32;
+
+const LITERAL_LIMIT: usize = 16;
+
+const ARGUMENT_LIMIT: usize = 12;
+
+const OUTPUT_LIMIT: usize = 12;
+
+const CALL_LIMIT: usize = 18;
+
+/// Whether a count is above its limit in the declaration, or with it.
+#[tactic(auto, unfolding(crate::specs::Faults::is_over_limit), using(crate::proofs::KindSteps::limit_steps))]
+pub fn is_over_limit(
+    alloc: Global,
+    tables: &Tables,
+    scope: &Scope,
+    declaration: &Declaration,
+) -> Result<bool, NoMemory>
+    requires { scope_of scope.now ≡ scope_in (contents tables.now.theory) declaration.now }
+    ensures { IfOk result (λ over. over ≡ is_over_limit (contents tables.now.theory) declaration.now) }
+{
+    match declaration {
+        Declaration::Sort { .. } => Ok(tables.theory.sig.sorts.len() >= SORT_LIMIT),
+        Declaration::Function { args, .. } => {
+            Ok(is_past_symbols(tables, 1) || args.len() > ARGUMENT_LIMIT)
+        }
+        Declaration::Relation { args, .. } => {
+            Ok(is_past_symbols(tables, 1) || args.len() > ARGUMENT_LIMIT)
+        }
+        Declaration::Literal { .. } => Ok(is_past_symbols(tables, 1)),
+        Declaration::Routine {
+            inputs,
+            outputs,
+            ..
+        } => {
+            Ok(is_past_symbols(tables, outputs.len()) || is_long_call(inputs.len(), outputs.len()))
+        }
+        Declaration::Value { args, .. } => {
+            Ok(is_past_symbols(tables, 1) || args.len() > ARGUMENT_LIMIT)
+        }
+        Declaration::Axiom { variables, formula } => {
+            if tables.theory.axioms.len() >= AXIOM_LIMIT || variables.len() > VARIABLE_LIMIT {
+                return Ok(true);
+            }
+            let formula = formula_meaning(alloc, scope, formula)?;
+            has_many_clauses(alloc, &formula)
+        }
+    }
+}
+
+fn is_past_symbols(tables: &Tables, more: usize) -> bool
+    ensures { result ≡ is_past_symbols (contents tables.now.theory) more }
+{
+    more > SYMBOL_LIMIT || tables.theory.sig.symbols.len() > SYMBOL_LIMIT - more
+}
+
+fn is_long_call(inputs: usize, outputs: usize) -> bool
+    ensures { result ≡ (nat_lt argument_limit inputs || (nat_lt output_limit outputs || nat_lt call_limit (inputs + outputs))) }
+{
+    inputs > ARGUMENT_LIMIT || (outputs > OUTPUT_LIMIT || inputs + outputs > CALL_LIMIT)
+}
+
+// Whether the formula has too many clauses, counted before any is built, or a clause with too many
+// literals; no memory too where it has so many variables that their numbers might exceed 32 bits.
+fn has_many_clauses(alloc: Global, formula: &Formula) -> Result<bool, NoMemory>
+    ensures { IfOk result (λ many. many ≡ has_many_clauses formula.now) }
+{
+    let variables = formula_variables(alloc, formula)?;
+    if variables.len() >= 4_000_000_000 {
+        return Err(NoMemory);
+    }
+    law_of_count();
+    match clauses_of(alloc, formula) {
+        Ok(clauses) => Ok(has_long_clause(clauses.as_slice())),
+        Err(ClauseFault::TooManyClauses(_)) => Ok(true),
+        Err(ClauseFault::NoMemory) => Err(NoMemory),
+    }
+}
+
+fn has_long_clause(clauses: &[Clause]) -> bool
+    ensures { result ≡ list_any is_long_clause clauses.now }
+{
+    clauses
+        .iter()
+        .any(|clause| clause.literals.len() > LITERAL_LIMIT)
+}
