@@ -3,6 +3,7 @@ pub mod Appends
 pub mod AxiomKept
 pub mod AxiomsBack
 pub mod Called
+pub mod CanonRead
 pub mod Clean
 pub mod CleanSymbol
 pub mod DeclaredAgain
