@@ -1,27 +1,24 @@
 -- Lines of the forms of declarations, behind the version, are read as what the declarations are a run to.
 use Rattle.std.proofs.Common.{◌≡◌, ◌∙◌, ◌≤◌, ◌&&◌, ◌+◌, max, ℕ, Bool, true, false, Option, Some, None, List, [], ◌∷◌, map, length, Result, Ok, Err, refl, sym, ap, arith}
-use Rattle.std.specs.Prelude.{ℤ, pos, codes}
+use Rattle.std.specs.Prelude.{pos}
 use Rattle.std.specs.List.{list_all}
-use Rattle.std.specs.Ordering.{int_eq}
 use Rattle.am_term.proofs.Tests.{and_both}
 use Rattle.am_text.specs.declared.form.Form.{Form}
-use Rattle.am_text.specs.declared.form.FormNode.TheVariants as node
 use Rattle.am_text.specs.declared.fault.TextFault.{TextFault}
 use Rattle.am_text.specs.Grammar.{height, highest, greatest}
 use Rattle.am_text.specs.Scan.{read}
 use Rattle.am_text.specs.Spelling.{is_writable, bare, lines, ReadsAs}
-use Rattle.am_text.proofs.Folds.{writable-Word, writable-Number, writable-List, writable-form, height-Word, height-Number, height-List, height-form}
 use Rattle.am_text.proofs.Trip.{lines_again}
-use Rattle.am_syntax.specs.Forms.{word_form}
 use Rattle.am_theory.specs.declared.declaration.Declaration.{Declaration}
 use Rattle.am_theory.specs.declared.fault.TheoryFault.{TheoryFault}
 use Rattle.am_theory.specs.Contents.{Contents, nothing, with_decl}
 use Rattle.am_theory.specs.Declarations.{decl_of, version_of}
 use Rattle.am_theory.specs.Faults.{first_kind}
-use Rattle.am_theory.specs.CanonicalText.{number_form, decl_form, version_form}
+use Rattle.am_theory.specs.CanonicalText.{decl_form, version_form}
 use Rattle.am_theory.specs.Limits.{file_limit, depth_limit}
 use Rattle.am_theory.specs.Reading.{◌>>=◌, checked, declared_by, declared, read_from, versioned, forms_theory, text_theory, theory}
 use Rattle.am_theory.specs.Traces.{IsOfForm, Trace}
+use Rattle.am_theory.proofs.VersionForm.{version-writable, version-height, version-read}
 
 abbrev pub PlacesAside : Type 0
 PlacesAside = (f g : Form) → bare f ≡ bare g → (decl_of f ≡ decl_of g) × (version_of f ≡ version_of g)
@@ -35,30 +32,6 @@ FormCanBeWritten = (d : Declaration) → IsOfForm d → is_writable (decl_form d
 
 abbrev pub FormIsLow : Type 0
 FormIsLow = (d : Declaration) → IsOfForm d → height (decl_form d) ≤ depth_limit
-
--- ---- the first form
-abbrev word_theory : Form
-word_theory = word_form (codes "theory")
-
-abbrev number_one : Form
-number_one = number_form (pos 1)
-
-version-writable : is_writable version_form ≡ true
-version-writable =
-    writable-form 0 (node.List (word_theory ∷ number_one ∷ []))
-    ∙ writable-List (word_theory ∷ number_one ∷ [])
-    ∙ ap (λ b. b && (is_writable number_one && true)) (writable-form 0 (node.Word (codes "theory")) ∙ writable-Word (codes "theory"))
-    ∙ ap (λ b. b && true) (writable-form 0 (node.Number (pos 1)) ∙ writable-Number (pos 1))
-
-version-height : height version_form ≡ 1
-version-height =
-    height-form 0 (node.List (word_theory ∷ number_one ∷ []))
-    ∙ height-List (word_theory ∷ number_one ∷ [])
-    ∙ ap (λ n. 1 + max n (max (height number_one) 0)) (height-form 0 (node.Word (codes "theory")) ∙ height-Word (codes "theory"))
-    ∙ ap (λ n. 1 + max 0 (max n 0)) (height-form 0 (node.Number (pos 1)) ∙ height-Number (pos 1))
-
-version-read : version_of version_form ≡ Some (pos 1)
-version-read = ?
 
 module _ (places : PlacesAside) (spelled : FormIsRead) (written : FormCanBeWritten) (low : FormIsLow) where
   -- ---- forms of a run
@@ -112,7 +85,6 @@ module _ (places : PlacesAside) (spelled : FormIsRead) (written : FormCanBeWritt
   lines_theory : (ds : List Declaration) (last : Contents) → Trace nothing ds last → length (lines (version_form ∷ map decl_form ds)) ≤ file_limit → theory (lines (version_form ∷ map decl_form ds)) ≡ ok last
   unfolding theory
   lines_theory ds last t short =
-      let text = lines (version_form ∷ map decl_form ds) in
       let r : ReadsAs file_limit depth_limit (lines (version_form ∷ map decl_form ds)) (version_form ∷ map decl_form ds) =
           lines_again file_limit depth_limit (version_form ∷ map decl_form ds)
           (and_both (is_writable version_form) (list_all is_writable (map decl_form ds)) version-writable (all-writable ds nothing last t))

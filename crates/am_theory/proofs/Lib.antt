@@ -1,5 +1,6 @@
 pub mod Alone
 pub mod Appends
+pub mod AxiomForms
 pub mod AxiomKept
 pub mod AxiomsBack
 pub mod Called
@@ -30,3 +31,4 @@ pub mod SoundSort
 pub mod Swapped
 pub mod SymbolBeforeAxiom
 pub mod SymbolsBack
+pub mod VersionForm
