@@ -7,6 +7,10 @@ pub mod Called
 pub mod CanonRead
 pub mod Clean
 pub mod CleanSymbol
+pub mod DeclarationAgain
+pub mod DeclarationPlaces
+pub mod DeclarationSteps
+pub mod DeclarationWritten
 pub mod DeclaredAgain
 mod Distinct
 pub mod FormParts
@@ -15,6 +19,7 @@ pub mod Grown
 pub mod Joined
 mod KindSteps
 pub mod KnownSorts
+pub mod LineSteps
 pub mod MoreSorts
 pub mod MoreSymbols
 pub mod NoFault

@@ -8,4 +8,5 @@ pub mod Faults
 pub mod Limits
 pub mod Lookups
 pub mod Reading
+pub mod Spellable
 pub mod Traces
