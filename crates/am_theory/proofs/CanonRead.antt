@@ -19,76 +19,68 @@ use Rattle.am_theory.specs.Limits.{file_limit, depth_limit}
 use Rattle.am_theory.specs.Reading.{◌>>=◌, checked, declared_by, declared, read_from, versioned, forms_theory, text_theory, theory}
 use Rattle.am_theory.specs.Traces.{IsOfForm, Trace}
 use Rattle.am_theory.proofs.VersionForm.{version-writable, version-height, version-read}
+use Rattle.am_theory.proofs.Clean.{clean_from}
+use Rattle.am_theory.proofs.DeclarationAgain.{declaration_again}
+use Rattle.am_theory.proofs.DeclarationHeights.{declaration_low}
+use Rattle.am_theory.proofs.DeclarationPlaces.{same_declaration, same_version}
+use Rattle.am_theory.proofs.DeclarationWritten.{declaration_written}
+use Rattle.am_theory.proofs.SpelledRun.{run_spellable}
 
-abbrev pub PlacesAside : Type 0
-PlacesAside = (f g : Form) → bare f ≡ bare g → (decl_of f ≡ decl_of g) × (version_of f ≡ version_of g)
+-- ---- forms of a run
+all-writable : (ds : List Declaration) (c last : Contents) → Trace c ds last → list_all is_writable (map decl_form ds) ≡ true
+all-writable [] c last t = refl
+all-writable (d ∷ ds) c last t = and_both (is_writable (decl_form d)) (list_all is_writable (map decl_form ds)) (declaration_written d (run_spellable c d t.1 (clean_from c d t.0))) (all-writable ds (with_decl c d) last t.2)
 
--- a declaration that a form can be, and that has no fault, is read from its form
-abbrev pub FormIsRead : Type 0
-FormIsRead = (c : Contents) (d : Declaration) → IsOfForm d → first_kind c d ≡ None → decl_of (decl_form d) ≡ Some d
+all-low : (ds : List Declaration) (c last : Contents) → Trace c ds last → highest (map decl_form ds) ≤ depth_limit
+all-low [] c last t = omega arith
+all-low (d ∷ ds) c last t = let h = declaration_low d t.1 in let i = all-low ds (with_decl c d) last t.2 in omega arith
 
-abbrev pub FormCanBeWritten : Type 0
-FormCanBeWritten = (d : Declaration) → IsOfForm d → is_writable (decl_form d) ≡ true
+-- ---- such forms, places aside, are read as what the run leads to
+abbrev ok : Contents → Result Contents TheoryFault
+ok c = Ok c
 
-abbrev pub FormIsLow : Type 0
-FormIsLow = (d : Declaration) → IsOfForm d → height (decl_form d) ≤ depth_limit
+one-read : (c last : Contents) (d : Declaration) (f : Form) (fs : List Form) → decl_of f ≡ Some d → first_kind c d ≡ None → read_from (with_decl c d) fs ≡ ok last → read_from c (f ∷ fs) ≡ ok last
+unfolding read_from declared
+one-read c last d f fs e k r =
+    ap (λ o. declared_by f.place c o >>= λ next. read_from next fs) e
+    ∙ ap (λ o. checked f.place c d o >>= λ next. read_from next fs) k
+    ∙ r
 
-module _ (places : PlacesAside) (spelled : FormIsRead) (written : FormCanBeWritten) (low : FormIsLow) where
-  -- ---- forms of a run
-  all-writable : (ds : List Declaration) (c last : Contents) → Trace c ds last → list_all is_writable (map decl_form ds) ≡ true
-  all-writable [] c last t = refl
-  all-writable (d ∷ ds) c last t = and_both (is_writable (decl_form d)) (list_all is_writable (map decl_form ds)) (written d t.1) (all-writable ds (with_decl c d) last t.2)
+none-read : (c last : Contents) → c ≡ last → read_from c [] ≡ ok last
+unfolding read_from
+none-read c last t = ap ok t
 
-  all-low : (ds : List Declaration) (c last : Contents) → Trace c ds last → highest (map decl_form ds) ≤ depth_limit
-  all-low [] c last t = omega arith
-  all-low (d ∷ ds) c last t = let h = low d t.1 in let i = all-low ds (with_decl c d) last t.2 in omega arith
+first_bare : (f g : Form) (fs gs : List Form) → map bare (f ∷ fs) ≡ map bare (g ∷ gs) → bare f ≡ bare g
+first_bare f g fs gs e = cc
 
-  -- ---- such forms, places aside, are read as what the run leads to
-  abbrev ok : Contents → Result Contents TheoryFault
-  ok c = Ok c
+rest_bare : (f g : Form) (fs gs : List Form) → map bare (f ∷ fs) ≡ map bare (g ∷ gs) → map bare fs ≡ map bare gs
+rest_bare f g fs gs e = cc
 
-  one-read : (c last : Contents) (d : Declaration) (f : Form) (fs : List Form) → decl_of f ≡ Some d → first_kind c d ≡ None → read_from (with_decl c d) fs ≡ ok last → read_from c (f ∷ fs) ≡ ok last
-  unfolding read_from declared
-  one-read c last d f fs e k r =
-      ap (λ o. declared_by f.place c o >>= λ next. read_from next fs) e
-      ∙ ap (λ o. checked f.place c d o >>= λ next. read_from next fs) k
-      ∙ r
+run-read : (ds : List Declaration) (c last : Contents) (fs : List Form) → Trace c ds last → map bare fs ≡ map bare (map decl_form ds) → read_from c fs ≡ ok last
+run-read [] c last [] t e = none-read c last t
+run-read [] c last (f ∷ fs) t e = absurd cc
+run-read (d ∷ ds) c last [] t e = absurd cc
+run-read (d ∷ ds) c last (f ∷ fs) t e =
+    one-read c last d f fs
+    (same_declaration f (decl_form d) (first_bare f (decl_form d) fs (map decl_form ds) e) ∙ declaration_again d (run_spellable c d t.1 (clean_from c d t.0)))
+    t.0
+    (run-read ds (with_decl c d) last fs t.2 (rest_bare f (decl_form d) fs (map decl_form ds) e))
 
-  none-read : (c last : Contents) → c ≡ last → read_from c [] ≡ ok last
-  unfolding read_from
-  none-read c last t = ap ok t
+-- ---- the whole
+headed-read : (size : ℕ) (ds : List Declaration) (last : Contents) (fs : List Form) → Trace nothing ds last → map bare fs ≡ map bare (version_form ∷ map decl_form ds) → forms_theory size fs ≡ ok last
+unfolding forms_theory
+headed-read size ds last [] t e = absurd cc
+headed-read size ds last (f ∷ fs) t e =
+    ap (λ o. versioned f.place o fs) (same_version f version_form (first_bare f version_form fs (map decl_form ds) e) ∙ version-read)
+    ∙ run-read ds nothing last fs t (rest_bare f version_form fs (map decl_form ds) e)
 
-  first_bare : (f g : Form) (fs gs : List Form) → map bare (f ∷ fs) ≡ map bare (g ∷ gs) → bare f ≡ bare g
-  first_bare f g fs gs e = cc
-
-  rest_bare : (f g : Form) (fs gs : List Form) → map bare (f ∷ fs) ≡ map bare (g ∷ gs) → map bare fs ≡ map bare gs
-  rest_bare f g fs gs e = cc
-
-  run-read : (ds : List Declaration) (c last : Contents) (fs : List Form) → Trace c ds last → map bare fs ≡ map bare (map decl_form ds) → read_from c fs ≡ ok last
-  run-read [] c last [] t e = none-read c last t
-  run-read [] c last (f ∷ fs) t e = absurd cc
-  run-read (d ∷ ds) c last [] t e = absurd cc
-  run-read (d ∷ ds) c last (f ∷ fs) t e =
-      one-read c last d f fs
-      ((places f (decl_form d) (first_bare f (decl_form d) fs (map decl_form ds) e)).0 ∙ spelled c d t.1 t.0)
-      t.0
-      (run-read ds (with_decl c d) last fs t.2 (rest_bare f (decl_form d) fs (map decl_form ds) e))
-
-  -- ---- the whole
-  headed-read : (size : ℕ) (ds : List Declaration) (last : Contents) (fs : List Form) → Trace nothing ds last → map bare fs ≡ map bare (version_form ∷ map decl_form ds) → forms_theory size fs ≡ ok last
-  unfolding forms_theory
-  headed-read size ds last [] t e = absurd cc
-  headed-read size ds last (f ∷ fs) t e =
-      ap (λ o. versioned f.place o fs) ((places f version_form (first_bare f version_form fs (map decl_form ds) e)).1 ∙ version-read)
-      ∙ run-read ds nothing last fs t (rest_bare f version_form fs (map decl_form ds) e)
-
-  lines_theory : (ds : List Declaration) (last : Contents) → Trace nothing ds last → length (lines (version_form ∷ map decl_form ds)) ≤ file_limit → theory (lines (version_form ∷ map decl_form ds)) ≡ ok last
-  unfolding theory
-  lines_theory ds last t short =
-      let r : ReadsAs file_limit depth_limit (lines (version_form ∷ map decl_form ds)) (version_form ∷ map decl_form ds) =
-          lines_again file_limit depth_limit (version_form ∷ map decl_form ds)
-          (and_both (is_writable version_form) (list_all is_writable (map decl_form ds)) version-writable (all-writable ds nothing last t))
-          (let h = all-low ds nothing last t in omega (arith, version-height))
-          short in
-      ap (text_theory (length (lines (version_form ∷ map decl_form ds)))) r.1
-      ∙ headed-read (length (lines (version_form ∷ map decl_form ds))) ds last r.0 t r.2
+pub lines_theory : (ds : List Declaration) (last : Contents) → Trace nothing ds last → length (lines (version_form ∷ map decl_form ds)) ≤ file_limit → theory (lines (version_form ∷ map decl_form ds)) ≡ ok last
+unfolding theory
+lines_theory ds last t short =
+    let r : ReadsAs file_limit depth_limit (lines (version_form ∷ map decl_form ds)) (version_form ∷ map decl_form ds) =
+        lines_again file_limit depth_limit (version_form ∷ map decl_form ds)
+        (and_both (is_writable version_form) (list_all is_writable (map decl_form ds)) version-writable (all-writable ds nothing last t))
+        (let h = all-low ds nothing last t in omega (arith, version-height))
+        short in
+    ap (text_theory (length (lines (version_form ∷ map decl_form ds)))) r.1
+    ∙ headed-read (length (lines (version_form ∷ map decl_form ds))) ds last r.0 t r.2

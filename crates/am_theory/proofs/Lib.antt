@@ -5,9 +5,11 @@ pub mod AxiomKept
 pub mod AxiomsBack
 pub mod Called
 pub mod CanonRead
+pub mod CanonicalTextRead
 pub mod Clean
 pub mod CleanSymbol
 pub mod DeclarationAgain
+pub mod DeclarationHeights
 pub mod DeclarationPlaces
 pub mod DeclarationSteps
 pub mod DeclarationWritten
@@ -33,6 +35,7 @@ pub mod SortNames
 pub mod SortsBack
 pub mod Sound
 pub mod SoundSort
+pub mod SpelledRun
 pub mod Swapped
 pub mod SymbolBeforeAxiom
 pub mod SymbolsBack

@@ -8,5 +8,6 @@ pub mod Faults
 pub mod Limits
 pub mod Lookups
 pub mod Reading
+pub mod RoundTrip
 pub mod Spellable
 pub mod Traces

@@ -19,11 +19,13 @@ mod limits;
 mod reps;
 mod tables;
 mod theory;
+mod trip_laws;
 mod writing;
 
 pub use declaration::{Declaration, Typed, WrittenRep};
 pub use fault::{TheoryFault, TheoryKind};
 pub use theory::{Axiom, FortranFunction, LitValue, LiteralDecl, Rep, Routine, Theory};
+pub use trip_laws::canonical_text_is_read;
 pub use writing::write_theory;
 
 #[cfg(test)]
