@@ -1,5 +1,5 @@
 -- Where no sort has a parent, a sort fits itself alone and is akin to itself alone.
-use Rattle.std.proofs.Common.{◌≡◌, ◌∙◌, ◌||◌, ℕ, zero, suc, Bool, true, false, Option, Some, None, List, refl, sym, ap, slice_get}
+use Rattle.std.proofs.Common.{◌≡◌, ◌∙◌, ◌||◌, ℕ, zero, suc, true, false, Option, Some, None, List, refl, sym, ap, slice_get}
 use Rattle.std.specs.List.{AllByRecursion}
 use Rattle.am_term.specs.declared.id.SortId.{SortId}
 use Rattle.am_term.specs.Sorts.{same_sort, below, parent_in, at_parent, fits_within, fits_in, root_within, root_in, akin_in}

@@ -151,8 +151,8 @@ pub distinct-append : (xs ns : List (List ℕ)) → are_distinct xs ≡ true →
 distinct-append xs ns e f h =
     let none : xs ++ [] ≡ xs = append-nil xs in
     let whole : differ bytes_eq names-turned (xs ++ (ns ++ [])) ≡ true =
-        between bytes_eq names-turned xs ns [] (ap (differ bytes_eq names-turned) none ∙ sym (distinct-differ xs) ∙ e) (sym (distinct-differ ns) ∙ f)
-        (subst (λ (ys : List (List ℕ)). AllByRecursion (λ n. is_among n ys ≡ false) ns) (sym none) h) in
+    between bytes_eq names-turned xs ns [] (ap (differ bytes_eq names-turned) none ∙ sym (distinct-differ xs) ∙ e) (sym (distinct-differ ns) ∙ f)
+    (subst (λ (ys : List (List ℕ)). AllByRecursion (λ n. is_among n ys ≡ false) ns) (sym none) h) in
     distinct-differ (xs ++ ns) ∙ ap (λ (ys : List (List ℕ)). differ bytes_eq names-turned (xs ++ ys)) (sym (append-nil ns)) ∙ whole
 
 -- one more name in between
@@ -178,11 +178,11 @@ pub all-flat : {X Y : Type 0} (P : Y → Type 0) (f : X → List Y) (xs : List X
 all-flat P f [] h = tt
 all-flat P f (x ∷ xs) h = all-append P (f x) (flat_map f xs) h.0 (all-flat P f xs h.1)
 
-all-front : {X : Type 0} (P : X → Type 0) (xs ys : List X) → AllByRecursion P (xs ++ ys) → AllByRecursion P xs
+pub all-front : {X : Type 0} (P : X → Type 0) (xs ys : List X) → AllByRecursion P (xs ++ ys) → AllByRecursion P xs
 all-front P [] ys h = tt
 all-front P (x ∷ xs) ys h = (h.0, all-front P xs ys h.1)
 
-all-back : {X : Type 0} (P : X → Type 0) (xs ys : List X) → AllByRecursion P (xs ++ ys) → AllByRecursion P ys
+pub all-back : {X : Type 0} (P : X → Type 0) (xs ys : List X) → AllByRecursion P (xs ++ ys) → AllByRecursion P ys
 all-back P [] ys h = h
 all-back P (x ∷ xs) ys h = all-back P xs ys h.1
 

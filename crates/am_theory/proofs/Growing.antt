@@ -1,8 +1,7 @@
 -- What was declared stays sound where more is declared.
-use Rattle.std.proofs.Common.{◌≡◌, ◌∙◌, ◌≤◌, ◌<◌, ℕ, true, false, Bool, Option, Some, None, List, [], refl, sym, ap, subst, arith, slice_get}
+use Rattle.std.proofs.Common.{◌≡◌, ◌∙◌, ◌≤◌, ℕ, true, false, Option, Some, None, List, [], refl, sym, ap, arith, slice_get}
 use Rattle.std.specs.Prelude.{is_some}
 use Rattle.std.specs.List.{AllByRecursion}
-use Rattle.std.proofs.lemmas.Option.{same_Some}
 use Rattle.am_term.specs.declared.id.SortId.{SortId}
 use Rattle.am_term.specs.declared.id.SymId.{SymId}
 use Rattle.am_term.specs.declared.kind.SymKind.{SymKind}
@@ -11,7 +10,7 @@ use Rattle.am_term.specs.NameLists.{is_among}
 use Rattle.am_syntax.specs.declared.scope.Bound.{Bound}
 use Rattle.am_syntax.specs.declared.scope.Flaw.TheVariants.{UnknownName, Unbound}
 use Rattle.am_syntax.specs.Positions.{position_of}
-use Rattle.am_syntax.specs.Scopes.{Profile, Scope, result_of}
+use Rattle.am_syntax.specs.Scopes.{Profile, result_of}
 use Rattle.am_syntax.specs.Laws.{Extends, IsSameFormulaIn}
 use Rattle.am_syntax.proofs.LargerFormula.{formula-kept}
 use Rattle.am_theory.specs.declared.theory.Rep.{Rep}
@@ -20,7 +19,7 @@ use Rattle.am_theory.specs.declared.theory.FortranFunction.{FortranFunction}
 use Rattle.am_theory.specs.declared.theory.LiteralDecl.{LiteralDecl}
 use Rattle.am_theory.specs.declared.theory.Axiom.{Axiom}
 use Rattle.am_theory.specs.Lookups.{known}
-use Rattle.am_theory.specs.Faults.{is_returnable, suits, same_value}
+use Rattle.am_theory.specs.Faults.{is_returnable, suits}
 use Rattle.am_theory.proofs.Alone.{fits-alone, akin-alone}
 use Rattle.am_theory.proofs.Appends.{all-weaker, all-at}
 use Rattle.am_theory.proofs.Sound.{IsAlone, IsSortOf, IsConcreteIn, HasResultOf, ProfileSound, StandsIn, RoutineSound, FunctionSound, LiteralSound, FormulaSound, AxiomSound, OneEach, names_of_symbols, sort_rep, sort_at, scope_in}
@@ -78,7 +77,7 @@ module _ (reps more : List (Option Rep)) (kept : Keeps reps more) where
     }
 
     -- the sort of a literal's symbol stays
-    literal-sort : (l : LiteralDecl) (s : SortId) → LiteralSound reps symbols l → sort_at larger l.symbol ≡ Some s → sort_at symbols l.symbol ≡ Some s
+    pub literal-sort : (l : LiteralDecl) (s : SortId) → LiteralSound reps symbols l → sort_at larger l.symbol ≡ Some s → sort_at symbols l.symbol ≡ Some s
     literal-sort l s h e =
         let was = sort-at reps symbols l.symbol _ [] h.stands in
         let is = sort-at more larger l.symbol _ [] (stands-kept l.symbol _ [] h.stands) in
@@ -118,7 +117,7 @@ module _ (count more : ℕ) (le : count ≤ more) where
     formula-stays : (f : Formula) → FormulaSound count parents symbols f → FormulaSound more after larger f
     formula-stays f h =
         let same : IsSameFormulaIn (scope_in parents symbols h.bound) (scope_in after larger h.bound) h.written =
-            formula-kept (scope_in parents symbols h.bound) (scope_in after larger h.bound) (extends h.bound) h.written (h.flawless UnknownName) (h.flawless Unbound) in
+        formula-kept (scope_in parents symbols h.bound) (scope_in after larger h.bound) (extends h.bound) h.written (h.flawless UnknownName) (h.flawless Unbound) in
         record {
           written = h.written;
           bound = h.bound;

@@ -22,6 +22,7 @@ pub mod Joined
 mod KindSteps
 pub mod KnownSorts
 pub mod LineSteps
+pub mod MoreCalled
 pub mod MoreSorts
 pub mod MoreSymbols
 pub mod NoFault
@@ -34,9 +35,16 @@ pub mod SortBeforeSymbol
 pub mod SortNames
 pub mod SortsBack
 pub mod Sound
+pub mod SoundAxiom
+pub mod SoundLiteral
+pub mod SoundRoutine
 pub mod SoundSort
+pub mod SoundSymbol
+pub mod SoundValue
 pub mod SpelledRun
 pub mod Swapped
 pub mod SymbolBeforeAxiom
+pub mod SymbolNumbers
 pub mod SymbolsBack
 pub mod VersionForm
+pub mod WellFormedRead

@@ -1,6 +1,6 @@
 -- Where symbols are added, what was declared stays sound.
-use Rattle.std.proofs.Common.{◌≡◌, ◌∙◌, ◌+◌, ◌≤◌, ℕ, true, false, Option, Some, None, List, [], ◌∷◌, ◌++◌, map, length, refl, sym, ap, subst, arith, slice_get}
-use Rattle.std.specs.List.{AllByRecursion, flat_map}
+use Rattle.std.proofs.Common.{◌≡◌, ◌∙◌, ◌+◌, ◌≤◌, ℕ, true, false, Some, List, [], ◌∷◌, ◌++◌, length, sym, ap, subst, arith, slice_get}
+use Rattle.std.specs.List.{AllByRecursion}
 use Rattle.std.proofs.lemmas.List.{length-append, map-append}
 use Rattle.am_term.specs.declared.id.SortId.{SortId}
 use Rattle.am_term.specs.declared.kind.SymKind.{SymKind}
@@ -12,7 +12,7 @@ use Rattle.am_theory.specs.declared.theory.Axiom.{Axiom}
 use Rattle.am_theory.specs.Contents.{Contents}
 use Rattle.am_theory.specs.Faults.{axiom_names, variable_names, is_symbol_name}
 use Rattle.am_theory.specs.Limits.{symbol_limit}
-use Rattle.am_theory.proofs.Appends.{Side, before, behind, all-append, all-map, all-unmap, all-weaker, all-both, all-unflat, get-left, get-side, get-only, apart-turned, among-append, distinct-append}
+use Rattle.am_theory.proofs.Appends.{before, behind, all-append, all-unmap, all-weaker, all-both, all-unflat, get-left, get-side, get-only, apart-turned, among-append, distinct-append}
 use Rattle.am_theory.proofs.Growing.{Keeps, routine-kept, function-kept, literal-kept, one-each-kept, axiom-kept}
 use Rattle.am_theory.proofs.Sound.{ProfileSound, SymbolsSound, RoutineSound, FunctionSound, LiteralSound, AxiomSound, OneEach, Sound, names_of_symbols}
 

@@ -1,5 +1,5 @@
 -- The sorts that declared names stand for.
-use Rattle.std.proofs.Common.{◌≡◌, ◌∙◌, ◌<◌, ℕ, Bool, true, false, not, Option, Some, None, List, [], ◌∷◌, map, length, refl, sym, ap, true≢false}
+use Rattle.std.proofs.Common.{◌≡◌, ◌∙◌, ◌<◌, ℕ, true, false, Option, Some, None, List, [], ◌∷◌, length, refl, sym, ap, true≢false}
 use Rattle.std.specs.Prelude.{is_some, is_none}
 use Rattle.std.specs.List.{AllByRecursion, list_any}
 use Rattle.am_term.specs.NameLists.{is_among}
@@ -7,7 +7,6 @@ use Rattle.am_term.proofs.Tests.{false_not}
 use Rattle.am_syntax.specs.Positions.{position_of}
 use Rattle.am_syntax.proofs.Among.{none_left, none_right}
 use Rattle.am_syntax.proofs.Positions.{position_below, position_among}
-use Rattle.am_theory.specs.declared.theory.Rep.{Rep}
 use Rattle.am_theory.specs.Contents.{Contents, id_of, sort_number, sort_numbers}
 use Rattle.am_theory.specs.Faults.{is_unknown_sort, rep_at, rep_named, is_abstract}
 use Rattle.am_theory.proofs.Sound.{IsSortOf, IsConcreteIn, sort_rep}

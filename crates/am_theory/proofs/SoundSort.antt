@@ -1,7 +1,7 @@
 -- After the declaration of a sort all is sound.
-use Rattle.std.proofs.Common.{◌≡◌, ◌∙◌, ◌+◌, ◌≤◌, ◌&&◌, ◌||◌, ℕ, Bool, true, false, not, Option, Some, None, List, [], ◌∷◌, ◌++◌, map, length, refl, sym, ap, subst, arith, true≢false}
-use Rattle.std.specs.Prelude.{ℤ, pos, negsuc, is_some, is_none, nat_le, nat_lt, option_map, IsTrue}
-use Rattle.std.specs.List.{AllByRecursion, flat_map}
+use Rattle.std.proofs.Common.{◌≡◌, ◌∙◌, ◌+◌, ◌≤◌, ◌&&◌, ℕ, Bool, true, false, not, Option, Some, None, List, [], ◌∷◌, ◌++◌, length, refl, sym, ap, subst, arith, true≢false}
+use Rattle.std.specs.Prelude.{ℤ, pos, negsuc, is_some, is_none, nat_le, option_map, IsTrue}
+use Rattle.std.specs.List.{AllByRecursion}
 use Rattle.std.specs.Str.{bytes_eq}
 use Rattle.std.proofs.lemmas.Bool.{ltb-false}
 use Rattle.std.proofs.lemmas.List.{length-append}
@@ -9,25 +9,23 @@ use Rattle.std.proofs.lemmas.List.Concat.{flat_map-append}
 use Rattle.am_term.specs.declared.id.SortId.{SortId}
 use Rattle.am_term.specs.Names.{is_name}
 use Rattle.am_term.specs.NameLists.{is_among}
-use Rattle.am_term.proofs.Tests.{and_both, and_left, and_right, false_not, not_false}
+use Rattle.am_term.proofs.Tests.{and_both, false_not}
 use Rattle.am_syntax.proofs.Among.{none_left, none_right}
 use Rattle.am_theory.specs.declared.theory.Rep.{Rep}
-use Rattle.am_theory.specs.declared.theory.Routine.{Routine}
-use Rattle.am_theory.specs.declared.theory.FortranFunction.{FortranFunction}
 use Rattle.am_theory.specs.declared.declaration.WrittenRep.{WrittenRep}
 use Rattle.am_theory.specs.declared.declaration.WrittenRep.TheVariants as written
 use Rattle.am_theory.specs.declared.declaration.Declaration.TheVariants as decl
 use Rattle.am_theory.specs.Contents.{Contents, extent, rep_meaning, with_decl}
 use Rattle.am_theory.specs.Lookups.{listed_name}
 use Rattle.am_theory.specs.Faults.{is_out_of, is_bad_rep, is_array, is_bad_sort_rep, is_array_rep, lacks_copy, is_free_name, is_bad_copy_name, has_bad_fortran_name, copy_clashes, clashes, is_twice, is_badly_represented, is_over_limit}
-use Rattle.am_theory.specs.Facts.{is_within, is_in_range, copies_when_array, is_represented}
+use Rattle.am_theory.specs.Facts.{is_within, is_in_range, copies_when_array}
 use Rattle.am_theory.specs.Facts.{is_array as is_array_meant}
 use Rattle.am_theory.specs.Limits.{sort_limit, length_limit, extent_limit}
 use Rattle.am_theory.specs.Traces.{IsWritten, is_rep_with}
 use Rattle.am_theory.proofs.Appends.{all-append, all-push, all-weaker, all-both, all-each, get-left, zip-push, none-is, none_both, among-append, distinct-append}
 use Rattle.am_theory.proofs.NoFault.{IsFaultless}
-use Rattle.am_theory.proofs.Growing.{routine-kept, function-kept, literal-kept, one-each-kept, profile-kept, axiom-kept}
-use Rattle.am_theory.proofs.Sound.{Suits, IsAlone, SortsSound, CalledSound, SymbolsSound, ProfileSound, RoutineSound, FunctionSound, LiteralSound, AxiomSound, Sound, listed, called}
+use Rattle.am_theory.proofs.Growing.{routine-kept, function-kept, literal-kept, profile-kept, axiom-kept}
+use Rattle.am_theory.proofs.Sound.{Suits, IsAlone, SortsSound, CalledSound, ProfileSound, RoutineSound, FunctionSound, LiteralSound, AxiomSound, Sound, listed, called}
 
 -- ---- representations
 within : (most : ℕ) (n : ℤ) → is_out_of most n ≡ false → is_within most (extent n) ≡ true

@@ -5,6 +5,7 @@ pub mod Contents
 pub mod Declarations
 pub mod Facts
 pub mod Faults
+pub mod Laws
 pub mod Limits
 pub mod Lookups
 pub mod Reading

@@ -18,12 +18,14 @@ mod kinds;
 mod limits;
 mod reps;
 mod tables;
+mod laws;
 mod theory;
 mod trip_laws;
 mod writing;
 
 pub use declaration::{Declaration, Typed, WrittenRep};
 pub use fault::{TheoryFault, TheoryKind};
+pub use laws::theories_that_were_read_are_well_formed;
 pub use theory::{Axiom, FortranFunction, LitValue, LiteralDecl, Rep, Routine, Theory};
 pub use trip_laws::canonical_text_is_read;
 pub use writing::write_theory;
