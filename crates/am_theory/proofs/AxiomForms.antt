@@ -1,6 +1,6 @@
 -- The formula of an axiom that a form is stands in this form, and is no higher than that lets it be.
-use Rattle.std.proofs.Common.{◌≡◌, ◌∙◌, ◌≤◌, ◌+◌, max, ℕ, Bool, true, false, List, [], ◌∷◌, map, Option, Some, None, refl, sym, ap, subst, arith}
-use Rattle.std.specs.Prelude.{ℤ, codes, if◌then◌else◌, option_map}
+use Rattle.std.proofs.Common.{◌≡◌, ◌∙◌, ◌≤◌, ◌+◌, ℕ, Bool, true, false, List, [], ◌∷◌, map, Option, Some, None, refl, sym, ap, subst, arith}
+use Rattle.std.specs.Prelude.{codes, if◌then◌else◌, option_map}
 use Rattle.std.specs.Str.{bytes_eq}
 use Rattle.std.proofs.lemmas.Option.{same_Some}
 use Rattle.am_text.specs.declared.form.Form.{Form}
@@ -21,7 +21,7 @@ use Rattle.am_theory.specs.declared.declaration.WrittenRep.{WrittenRep}
 use Rattle.am_theory.specs.declared.declaration.Typed.{Typed}
 use Rattle.am_theory.specs.declared.declaration.Declaration.{Declaration}
 use Rattle.am_theory.specs.declared.declaration.Declaration.TheVariants.{Sort, Function, Relation, Literal, Routine, Value, Axiom}
-use Rattle.am_theory.specs.Declarations.{◌>>=◌, list_at, word_of, value_of, list_of, name_of, names_of, typed_of, written_rep_of, sort_decl, function_decl, relation_decl, literal_decl, routine_decl, value_decl, quantified_axiom, plain_axiom, head_in, tail_of, is_all, axiom_by, axiom_decl, decl_headed, decl_in, decl_of}
+use Rattle.am_theory.specs.Declarations.{◌>>=◌, list_at, word_of, value_of, list_of, name_of, names_of, typed_of, written_rep_of, sort_decl, function_decl, relation_decl, literal_decl, routine_decl, value_decl, quantified_axiom, head_in, tail_of, is_all, axiom_by, axiom_decl, decl_headed, decl_in, decl_of}
 use Rattle.am_theory.specs.Traces.{IsOfForm}
 use Rattle.am_theory.proofs.OfForm.{First, first_of_two}
 

@@ -1,19 +1,18 @@
 -- After a run over axioms alone there is nothing new beside axioms, and these are written as they were.
-use Rattle.std.proofs.Common.{◌≡◌, ◌∙◌, ◌||◌, ℕ, zero, suc, ◌+◌, Bool, true, false, Option, Some, None, List, [], ◌∷◌, ◌++◌, map, refl, sym, ap, subst, arith, append_assoc}
+use Rattle.std.proofs.Common.{◌≡◌, ◌∙◌, ℕ, suc, ◌+◌, Bool, true, false, Some, List, [], ◌∷◌, ◌++◌, map, refl, sym, ap, subst, arith, append_assoc}
 use Rattle.std.specs.Prelude.{slice_get, slice_index_or, if◌then◌else◌}
 use Rattle.std.specs.List.{AllByRecursion, list_any}
 use Rattle.std.specs.Str.{bytes_eq}
 use Rattle.std.proofs.lemmas.List.{append-nil}
-use Rattle.std.proofs.lemmas.Option.{get_or_from_slice_get, none-some, same_Some}
+use Rattle.std.proofs.lemmas.Option.{get_or_from_slice_get, none-some}
 use Rattle.am_term.specs.declared.id.SortId.{SortId}
-use Rattle.am_syntax.specs.declared.scope.Standing.{Standing}
 use Rattle.am_syntax.specs.declared.scope.Standing.TheVariants.{Variable, Input}
 use Rattle.am_syntax.specs.declared.written.Words.TheVariants.{Names}
 use Rattle.am_syntax.specs.declared.written.WrittenFormula.{WrittenFormula}
 use Rattle.am_syntax.specs.Scopes.{standing_of}
 use Rattle.am_syntax.specs.Forms.{is_spellable_formula}
 use Rattle.am_syntax.specs.Meaning.{formula_meaning}
-use Rattle.am_syntax.specs.Naming.{Naming, named_formula}
+use Rattle.am_syntax.specs.Naming.{named_formula}
 use Rattle.am_syntax.specs.Laws.{NamesBack}
 use Rattle.am_syntax.proofs.Among.{none_left, none_right}
 use Rattle.am_syntax.proofs.WrittenBack.{formula-back}
@@ -22,11 +21,11 @@ use Rattle.am_theory.specs.declared.declaration.Typed.{Typed}
 use Rattle.am_theory.specs.declared.declaration.Declaration.{Declaration}
 use Rattle.am_theory.specs.declared.declaration.Declaration.TheVariants as decl
 use Rattle.am_theory.specs.Contents.{Contents, sort_number, symbol_names, bound_from, axiom_scope, variable_of, with_decl}
-use Rattle.am_theory.specs.Faults.{sorts_in, names_in, is_unknown_sort, quantifies}
-use Rattle.am_theory.specs.CanonicalText.{sort_name, typed_variable, axiom_naming, written_axiom}
+use Rattle.am_theory.specs.Faults.{sorts_in, is_unknown_sort, quantifies}
+use Rattle.am_theory.specs.CanonicalText.{typed_variable, axiom_naming, written_axiom}
 use Rattle.am_theory.specs.Traces.{Trace, IsOfForm}
 use Rattle.am_syntax.proofs.Positions.{same, position_there}
-use Rattle.am_theory.proofs.Clean.{IsClean, clean_from}
+use Rattle.am_theory.proofs.NoFault.{IsFaultless, faultless}
 use Rattle.am_theory.proofs.KnownSorts.{name-back}
 use Rattle.am_theory.proofs.AxiomKept.{variables-known, heads-known, names-bound}
 use Rattle.am_theory.proofs.Swapped.{StatesAxiom}
@@ -82,7 +81,7 @@ module _ (c : Contents) where
       ap (λ (s : List ℕ). record { name = v.name; sort = s } ∷ map (typed_variable c) (map (variable_of c) vs)) (name-back c v.sort (none_left (is_unknown_sort c v.sort) (list_any (is_unknown_sort c) (sorts_in vs)) e))
       ∙ ap (λ xs. v ∷ xs) (variables-back vs (none_right (is_unknown_sort c v.sort) (list_any (is_unknown_sort c) (sorts_in vs)) e))
 
-  axiom-back : (vs : List Typed) (g : WrittenFormula) → IsClean c (decl.Axiom vs g) → is_spellable_formula Names g ≡ true → written_axiom c (axiom_of vs g) ≡ decl.Axiom vs g
+  axiom-back : (vs : List Typed) (g : WrittenFormula) → IsFaultless c (decl.Axiom vs g) → is_spellable_formula Names g ≡ true → written_axiom c (axiom_of vs g) ≡ decl.Axiom vs g
   unfolding quantifies
   axiom-back vs g k spelled =
       ap (λ xs. decl.Axiom xs (named_formula (axiom_naming c (axiom_of vs g)) (formula_meaning (axiom_scope c vs) g))) (variables-back vs (variables-known c vs g k))
@@ -98,7 +97,7 @@ pub record AreAxiomsOf (c : Contents) (ds : List Declaration) (last : Contents) 
 none-more : (c : Contents) → AreAxiomsOf c [] c
 none-more c = record { more = []; axioms = sym (append-nil c.axioms); rest = refl; back = refl }
 
-one-more : (c last : Contents) (vs : List Typed) (g : WrittenFormula) (ds : List Declaration) → IsClean c (decl.Axiom vs g) → is_spellable_formula Names g ≡ true → AreAxiomsOf (with_decl c (decl.Axiom vs g)) ds last → AreAxiomsOf c (decl.Axiom vs g ∷ ds) last
+one-more : (c last : Contents) (vs : List Typed) (g : WrittenFormula) (ds : List Declaration) → IsFaultless c (decl.Axiom vs g) → is_spellable_formula Names g ≡ true → AreAxiomsOf (with_decl c (decl.Axiom vs g)) ds last → AreAxiomsOf c (decl.Axiom vs g ∷ ds) last
 unfolding with_decl
 one-more c last vs g ds k spelled s = record {
   more = axiom_of c vs g ∷ s.more;
@@ -114,7 +113,7 @@ module _ (spelled : (vs : List Typed) (g : WrittenFormula) → IsOfForm (decl.Ax
   pub axioms-back : (ds : List Declaration) (c last : Contents) → AllByRecursion StatesAxiom ds → Trace c ds last → AreAxiomsOf c ds last
   axioms-back [] c last all t = subst (λ (b : Contents). AreAxiomsOf c [] b) t (none-more c)
   axioms-back (decl.Axiom vs g ∷ ds) c last all t =
-      one-more c last vs g ds (clean_from c (decl.Axiom vs g) t.0) (spelled vs g t.1) (axioms-back ds (with_decl c (decl.Axiom vs g)) last all.1 t.2)
+      one-more c last vs g ds (faultless c (decl.Axiom vs g) t.0) (spelled vs g t.1) (axioms-back ds (with_decl c (decl.Axiom vs g)) last all.1 t.2)
   axioms-back (decl.Sort n r copy ∷ ds) c last all t = absurd all.0
   axioms-back (decl.Function n args r ∷ ds) c last all t = absurd all.0
   axioms-back (decl.Relation n args ∷ ds) c last all t = absurd all.0

@@ -1,5 +1,5 @@
 -- The canonical text of a theory that was read is read as this theory.
-use Rattle.std.proofs.Common.{◌≡◌, ◌≤◌, ℕ, List, length, Ok}
+use Rattle.std.proofs.Common.{◌≡◌, ◌≤◌, length, Ok}
 use Rattle.am_theory.specs.Contents.{Contents, nothing}
 use Rattle.am_theory.specs.CanonicalText.{declarations, canon}
 use Rattle.am_theory.specs.Limits.{file_limit}
@@ -7,7 +7,7 @@ use Rattle.am_theory.specs.Reading.{theory}
 use Rattle.am_theory.specs.RoundTrip.{CanonicalTextIsRead}
 use Rattle.am_theory.specs.Traces.{Trace}
 use Rattle.am_theory.proofs.AxiomForms.{axiom-spelled}
-use Rattle.am_theory.proofs.CanonRead.{lines_theory}
+use Rattle.am_theory.proofs.LinesRead.{lines_theory}
 use Rattle.am_theory.proofs.DeclaredAgain.{declared-again}
 use Rattle.am_theory.proofs.RunOf.{Run, run_of}
 use Rattle.am_theory.proofs.SpelledRun.{routine-some}

@@ -19,7 +19,7 @@ use Rattle.am_theory.specs.declared.declaration.Declaration.TheVariants as decl
 use Rattle.am_theory.specs.CanonicalText.{number_form, value_form, names_form, typed_form, rep_form, rep_forms, decl_form}
 use Rattle.am_theory.specs.Limits.{depth_limit}
 use Rattle.am_theory.specs.Traces.{IsOfForm}
-use Rattle.am_theory.proofs.AxiomForms.{nesting, HasFormula, formula-in}
+use Rattle.am_theory.proofs.AxiomForms.{HasFormula, formula-in}
 
 -- ---- parts
 word-low : (w : List ℕ) → height (word_form w) ≡ 0

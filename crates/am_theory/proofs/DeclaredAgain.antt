@@ -1,5 +1,5 @@
 -- The declarations of what a run declares are a run to the same.
-use Rattle.std.proofs.Common.{◌≡◌, ◌∙◌, ℕ, true, None, List, [], ◌∷◌, ◌++◌, map, length, refl, sym, ap, subst, append_assoc}
+use Rattle.std.proofs.Common.{◌≡◌, ◌∙◌, ℕ, true, List, ◌++◌, map, length, refl, sym, ap, subst, append_assoc}
 use Rattle.std.specs.Prelude.{find}
 use Rattle.am_syntax.specs.declared.written.Words.TheVariants.{Names}
 use Rattle.am_syntax.specs.declared.written.WrittenFormula.{WrittenFormula}

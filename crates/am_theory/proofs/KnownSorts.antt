@@ -1,9 +1,8 @@
 -- A sort that is known has a place, and the name at that place is its name.
-use Rattle.std.proofs.Common.{◌≡◌, ◌∙◌, ◌||◌, ℕ, Bool, true, false, Option, Some, None, List, [], ◌∷◌, ◌++◌, map, refl, sym, ap, true≢false}
-use Rattle.std.specs.Prelude.{slice_index_or, is_some}
+use Rattle.std.proofs.Common.{◌≡◌, ◌∙◌, ℕ, true, false, Option, Some, None, List, [], ◌∷◌, refl, sym, ap, true≢false}
+use Rattle.std.specs.Prelude.{is_some}
 use Rattle.std.specs.List.{list_any}
 use Rattle.std.proofs.lemmas.Option.{get_or_from_slice_get}
-use Rattle.am_term.specs.declared.id.SortId.{SortId}
 use Rattle.am_term.specs.NameLists.{is_among}
 use Rattle.am_term.proofs.Tests.{false_not}
 use Rattle.am_syntax.specs.Positions.{position_of}

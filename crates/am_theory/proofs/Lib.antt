@@ -4,10 +4,7 @@ pub mod AxiomForms
 pub mod AxiomKept
 pub mod AxiomsBack
 pub mod Called
-pub mod CanonRead
 pub mod CanonicalTextRead
-pub mod Clean
-pub mod CleanSymbol
 pub mod DeclarationAgain
 pub mod DeclarationHeights
 pub mod DeclarationPlaces
@@ -15,6 +12,8 @@ pub mod DeclarationSteps
 pub mod DeclarationWritten
 pub mod DeclaredAgain
 mod Distinct
+pub mod FaultlessSymbol
+pub mod FirstNone
 pub mod FormParts
 pub mod Growing
 pub mod Grown
@@ -22,6 +21,7 @@ pub mod Joined
 mod KindSteps
 pub mod KnownSorts
 pub mod LineSteps
+pub mod LinesRead
 pub mod MoreCalled
 pub mod MoreSorts
 pub mod MoreSymbols

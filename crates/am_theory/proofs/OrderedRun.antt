@@ -5,7 +5,8 @@ use Rattle.am_theory.specs.declared.declaration.Declaration.{Declaration}
 use Rattle.am_theory.specs.declared.declaration.Declaration.TheVariants as decl
 use Rattle.am_theory.specs.Contents.{Contents, with_decl}
 use Rattle.am_theory.specs.Traces.{Trace}
-use Rattle.am_theory.proofs.Clean.{IsClean, clean_from, clean_none}
+use Rattle.am_theory.proofs.NoFault.{IsFaultless, faultless}
+use Rattle.am_theory.proofs.FirstNone.{first-none}
 use Rattle.am_theory.proofs.Swapped.{IsSwapped, DeclaresSort, DeclaresSymbol, StatesAxiom}
 use Rattle.am_theory.proofs.SortBeforeSymbol.{sort_first-symbol}
 use Rattle.am_theory.proofs.SortBeforeAxiom.{sort_first-axiom}
@@ -15,18 +16,18 @@ use Rattle.am_theory.proofs.SymbolBeforeAxiom.{symbol-first}
 pub record IsPassed (c : Contents) (d : Declaration) (es : List Declaration) (last : Contents) : Type 0 where
   pub reached : Contents
   pub run : Trace c es reached
-  pub clean : IsClean reached d
+  pub passes : IsFaultless reached d
   pub same : with_decl reached d ≡ last
 
-module _ (P : Declaration → Type 0) (d : Declaration) (swap : (c : Contents) (e : Declaration) → P e → IsClean c d → IsClean (with_decl c d) e → IsSwapped c d e) where
-  pub pass : (es : List Declaration) (c last : Contents) → IsClean c d → AllByRecursion P es → Trace (with_decl c d) es last → IsPassed c d es last
-  pass [] c last k all t = record { reached = c; run = refl; clean = k; same = t }
+module _ (P : Declaration → Type 0) (d : Declaration) (swap : (c : Contents) (e : Declaration) → P e → IsFaultless c d → IsFaultless (with_decl c d) e → IsSwapped c d e) where
+  pub pass : (es : List Declaration) (c last : Contents) → IsFaultless c d → AllByRecursion P es → Trace (with_decl c d) es last → IsPassed c d es last
+  pass [] c last k all t = record { reached = c; run = refl; passes = k; same = t }
   pass (e ∷ es) c last k all t =
-      let s = swap c e all.0 k (clean_from (with_decl c d) e t.0) in
+      let s = swap c e all.0 k (faultless (with_decl c d) e t.0) in
       let p = pass es (with_decl c e) last s.behind all.1 (subst (λ (b : Contents). Trace b es last) s.same t.2) in
-      record { reached = p.reached; run = (clean_none c e s.before, t.1, p.run); clean = p.clean; same = p.same }
+      record { reached = p.reached; run = (first-none c e s.before, t.1, p.run); passes = p.passes; same = p.same }
 
-sort_past-symbol : (d : Declaration) → DeclaresSymbol d → (c : Contents) (e : Declaration) → DeclaresSort e → IsClean c d → IsClean (with_decl c d) e → IsSwapped c d e
+sort_past-symbol : (d : Declaration) → DeclaresSymbol d → (c : Contents) (e : Declaration) → DeclaresSort e → IsFaultless c d → IsFaultless (with_decl c d) e → IsSwapped c d e
 sort_past-symbol d h c (decl.Sort n r copy) i k l = sort_first-symbol c n r copy d h k l
 sort_past-symbol d h c (decl.Function n args r) i k l = absurd i
 sort_past-symbol d h c (decl.Relation n args) i k l = absurd i
@@ -35,7 +36,7 @@ sort_past-symbol d h c (decl.Routine n inputs outputs) i k l = absurd i
 sort_past-symbol d h c (decl.Value f n args r) i k l = absurd i
 sort_past-symbol d h c (decl.Axiom vs g) i k l = absurd i
 
-sort_past-axiom : (d : Declaration) → StatesAxiom d → (c : Contents) (e : Declaration) → DeclaresSort e → IsClean c d → IsClean (with_decl c d) e → IsSwapped c d e
+sort_past-axiom : (d : Declaration) → StatesAxiom d → (c : Contents) (e : Declaration) → DeclaresSort e → IsFaultless c d → IsFaultless (with_decl c d) e → IsSwapped c d e
 sort_past-axiom (decl.Axiom vs g) h c (decl.Sort n r copy) i k l = sort_first-axiom c n r copy vs g k l
 sort_past-axiom (decl.Axiom vs g) h c (decl.Function n args r) i k l = absurd i
 sort_past-axiom (decl.Axiom vs g) h c (decl.Relation n args) i k l = absurd i
@@ -50,7 +51,7 @@ sort_past-axiom (decl.Literal n s v) h c e i k l = absurd h
 sort_past-axiom (decl.Routine n inputs outputs) h c e i k l = absurd h
 sort_past-axiom (decl.Value f n args r) h c e i k l = absurd h
 
-symbol_past-axiom : (d : Declaration) → StatesAxiom d → (c : Contents) (e : Declaration) → DeclaresSymbol e → IsClean c d → IsClean (with_decl c d) e → IsSwapped c d e
+symbol_past-axiom : (d : Declaration) → StatesAxiom d → (c : Contents) (e : Declaration) → DeclaresSymbol e → IsFaultless c d → IsFaultless (with_decl c d) e → IsSwapped c d e
 symbol_past-axiom (decl.Axiom vs g) h c e i k l = symbol-first c vs g k e i l
 symbol_past-axiom (decl.Sort n r copy) h c e i k l = absurd h
 symbol_past-axiom (decl.Function n args r) h c e i k l = absurd h
@@ -91,7 +92,7 @@ module _ (c last : Contents) (d : Declaration) (ds : List Declaration) (t : Trac
 
   symbol_added : DeclaresSymbol d → Ordered c last
   symbol_added h =
-      let p = pass DeclaresSort d (sort_past-symbol d h) o.sorts c o.with_sorts (clean_from c d t.0) o.all_sorts o.sort_run in
+      let p = pass DeclaresSort d (sort_past-symbol d h) o.sorts c o.with_sorts (faultless c d t.0) o.all_sorts o.sort_run in
       record {
         sorts = o.sorts;
         symbols = d ∷ o.symbols;
@@ -99,7 +100,7 @@ module _ (c last : Contents) (d : Declaration) (ds : List Declaration) (t : Trac
         with_sorts = p.reached;
         with_symbols = o.with_symbols;
         sort_run = p.run;
-        symbol_run = (clean_none p.reached d p.clean, t.1, subst (λ (b : Contents). Trace b o.symbols o.with_symbols) (sym p.same) o.symbol_run);
+        symbol_run = (first-none p.reached d p.passes, t.1, subst (λ (b : Contents). Trace b o.symbols o.with_symbols) (sym p.same) o.symbol_run);
         axiom_run = o.axiom_run;
         all_sorts = o.all_sorts;
         all_symbols = (h, o.all_symbols);
@@ -108,8 +109,8 @@ module _ (c last : Contents) (d : Declaration) (ds : List Declaration) (t : Trac
 
   axiom_added : StatesAxiom d → Ordered c last
   axiom_added h =
-      let p = pass DeclaresSort d (sort_past-axiom d h) o.sorts c o.with_sorts (clean_from c d t.0) o.all_sorts o.sort_run in
-      let q = pass DeclaresSymbol d (symbol_past-axiom d h) o.symbols p.reached o.with_symbols p.clean o.all_symbols (subst (λ (b : Contents). Trace b o.symbols o.with_symbols) (sym p.same) o.symbol_run) in
+      let p = pass DeclaresSort d (sort_past-axiom d h) o.sorts c o.with_sorts (faultless c d t.0) o.all_sorts o.sort_run in
+      let q = pass DeclaresSymbol d (symbol_past-axiom d h) o.symbols p.reached o.with_symbols p.passes o.all_symbols (subst (λ (b : Contents). Trace b o.symbols o.with_symbols) (sym p.same) o.symbol_run) in
       record {
         sorts = o.sorts;
         symbols = o.symbols;
@@ -118,7 +119,7 @@ module _ (c last : Contents) (d : Declaration) (ds : List Declaration) (t : Trac
         with_symbols = q.reached;
         sort_run = p.run;
         symbol_run = q.run;
-        axiom_run = (clean_none q.reached d q.clean, t.1, subst (λ (b : Contents). Trace b o.axioms last) (sym q.same) o.axiom_run);
+        axiom_run = (first-none q.reached d q.passes, t.1, subst (λ (b : Contents). Trace b o.axioms last) (sym q.same) o.axiom_run);
         all_sorts = o.all_sorts;
         all_symbols = o.all_symbols;
         all_axioms = (h, o.all_axioms);

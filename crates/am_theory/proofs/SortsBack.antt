@@ -1,5 +1,5 @@
 -- After a run over sorts alone there is nothing new beside sorts, and their declarations are those of the run.
-use Rattle.std.proofs.Common.{◌≡◌, ◌∙◌, ◌||◌, ℕ, ◌+◌, Bool, true, false, Option, Some, None, List, [], ◌∷◌, ◌++◌, length, refl, sym, ap, subst, true≢false, arith, append_assoc, length-append}
+use Rattle.std.proofs.Common.{◌≡◌, ◌∙◌, ℕ, false, Option, Some, None, List, [], ◌∷◌, ◌++◌, length, refl, sym, ap, subst, true≢false, arith, append_assoc, length-append}
 use Rattle.std.specs.Prelude.{ℤ, pos, negsuc, option_map, is_some, not, ◌&&◌}
 use Rattle.std.specs.List.{AllByRecursion}
 use Rattle.std.proofs.lemmas.List.{append-nil}
@@ -14,7 +14,7 @@ use Rattle.am_theory.specs.Faults.{is_out_of, is_bad_rep, is_array, is_bad_sort_
 use Rattle.am_theory.specs.CanonicalText.{written_rep, written_rep_of, sort_decls}
 use Rattle.am_theory.specs.Limits.{length_limit, extent_limit}
 use Rattle.am_theory.specs.Traces.{Trace}
-use Rattle.am_theory.proofs.Clean.{IsClean, clean_from}
+use Rattle.am_theory.proofs.NoFault.{faultless}
 use Rattle.am_theory.proofs.Swapped.{DeclaresSort}
 
 -- ---- a representation in range is written as it was
@@ -86,7 +86,7 @@ longer-copies c n r copy e = one_longer c.copies c.sorts copy n e
 pub sorts-back : (ds : List Declaration) (c last : Contents) → AllByRecursion DeclaresSort ds → Trace c ds last → length c.reps ≡ length c.sorts → length c.copies ≡ length c.sorts → AreSortsOf c ds last
 sorts-back [] c last all t e f = subst (λ (b : Contents). AreSortsOf c [] b) t (none-more c)
 sorts-back (decl.Sort n r copy ∷ ds) c last all t e f =
-    one-more c last n r copy ds (clean_from c (decl.Sort n r copy) t.0).represented e f
+    one-more c last n r copy ds (faultless c (decl.Sort n r copy) t.0).represented e f
     (sorts-back ds (with_decl c (decl.Sort n r copy)) last all.1 t.2 (longer-reps c n r copy e) (longer-copies c n r copy f))
 sorts-back (decl.Function n args r ∷ ds) c last all t e f = absurd all.0
 sorts-back (decl.Relation n args ∷ ds) c last all t e f = absurd all.0

@@ -15,15 +15,15 @@ use Rattle.am_theory.specs.Contents.{Contents}
 use Rattle.am_theory.specs.Faults.{quantifies}
 use Rattle.am_theory.specs.Spellable.{is_spellable_declaration}
 use Rattle.am_theory.specs.Traces.{IsOfForm, IsWritten, is_typed, is_rep_with, is_written_value}
-use Rattle.am_theory.proofs.Clean.{IsClean}
+use Rattle.am_theory.proofs.NoFault.{IsFaultless}
 use Rattle.am_theory.proofs.OfForm.{of_form}
 use Rattle.am_theory.proofs.AxiomForms.{axiom-spelled}
 
-no-quantifier : (c : Contents) (vs : List Typed) (g : WrittenFormula) → IsClean c (decl.Axiom vs g) → has_quantifier g ≡ false
+no-quantifier : (c : Contents) (vs : List Typed) (g : WrittenFormula) → IsFaultless c (decl.Axiom vs g) → has_quantifier g ≡ false
 unfolding quantifies
 no-quantifier c vs g k = k.plain
 
-written_spellable : (c : Contents) (d : Declaration) → IsOfForm d → IsClean c d → IsWritten d → is_spellable_declaration d ≡ true
+written_spellable : (c : Contents) (d : Declaration) → IsOfForm d → IsFaultless c d → IsWritten d → is_spellable_declaration d ≡ true
 written_spellable c (decl.Sort n r copy) o k w = and_both (is_name n) (is_rep_with r copy) w.0 w.1
 written_spellable c (decl.Function n args r) o k w = and_both (is_name n) (list_all is_name args && is_name r) w.0 (and_both (list_all is_name args) (is_name r) w.1 w.2)
 written_spellable c (decl.Relation n args) o k w = and_both (is_name n) (list_all is_name args) w.0 w.1
@@ -40,7 +40,7 @@ written_spellable c (decl.Axiom vs g) o k w =
     and_both (list_all is_typed vs) (is_spellable_formula Names g && not (has_quantifier g)) w
     (and_both (is_spellable_formula Names g) (not (has_quantifier g)) (axiom-spelled vs g o) (not_false (has_quantifier g) (no-quantifier c vs g k)))
 
-pub run_spellable : (c : Contents) (d : Declaration) → IsOfForm d → IsClean c d → is_spellable_declaration d ≡ true
+pub run_spellable : (c : Contents) (d : Declaration) → IsOfForm d → IsFaultless c d → is_spellable_declaration d ≡ true
 run_spellable c d o k = written_spellable c d o k (of_form d o)
 
 -- a routine that a form is has an output

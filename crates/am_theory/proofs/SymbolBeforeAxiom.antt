@@ -1,6 +1,6 @@
 -- A symbol that is declared behind an axiom may stand before it.
-use Rattle.std.proofs.Common.{◌≡◌, ◌∙◌, ◌||◌, ◌+◌, ℕ, Bool, false, not, List, [], ◌∷◌, ◌++◌, map, length, refl, sym, ap, Option, Some, None}
-use Rattle.std.specs.List.{list_any, flat_map}
+use Rattle.std.proofs.Common.{◌≡◌, ◌∙◌, ℕ, false, List, [], ◌∷◌, ◌++◌, map, length, refl, sym, ap, Some, None}
+use Rattle.std.specs.List.{list_any}
 use Rattle.std.specs.Str.{bytes_eq}
 use Rattle.std.proofs.lemmas.List.{map-append}
 use Rattle.std.proofs.lemmas.List.Folds.{list_any-append}
@@ -14,7 +14,6 @@ use Rattle.am_syntax.specs.Scopes.{Profile}
 use Rattle.am_syntax.specs.Meaning.{formula_meaning}
 use Rattle.am_syntax.specs.Laws.{Extends}
 use Rattle.am_syntax.proofs.Among.{none_left, none_right}
-use Rattle.am_theory.specs.declared.theory.LitValue.{LitValue}
 use Rattle.am_theory.specs.declared.theory.Routine.{Routine}
 use Rattle.am_theory.specs.declared.theory.FortranFunction.{FortranFunction}
 use Rattle.am_theory.specs.declared.theory.LiteralDecl.{LiteralDecl}
@@ -25,10 +24,11 @@ use Rattle.am_theory.specs.declared.declaration.Declaration.TheVariants as decl
 use Rattle.am_theory.specs.Contents.{Contents, sort_number, sort_numbers, symbol_names, axiom_scope, variable_of, output_profile, numbers_from, next_symbol, with_decl}
 use Rattle.am_theory.specs.Faults.{names_in, has_unknown_name, axiom_names, variable_names, is_symbol_name, is_taken, is_literal_of, is_twice, is_badly_represented, clashes, is_over_limit}
 use Rattle.am_syntax.proofs.Positions.{position_kept}
-use Rattle.am_theory.proofs.Clean.{IsClean}
-use Rattle.am_theory.proofs.CleanSymbol.{symbol-clean}
-use Rattle.am_theory.proofs.Joined.{none_both, none-front, none-behind, none-also, none-either, slice_get-front, apart-turned}
-use Rattle.am_theory.proofs.AxiomKept.{variables-known, meaning-kept, axiom-clean}
+use Rattle.am_theory.proofs.NoFault.{IsFaultless}
+use Rattle.am_theory.proofs.FaultlessSymbol.{symbol-faultless}
+use Rattle.am_theory.proofs.Appends.{none_both, get-left}
+use Rattle.am_theory.proofs.Joined.{none-front, none-behind, none-also, none-either, disjoint-turned}
+use Rattle.am_theory.proofs.AxiomKept.{variables-known, meaning-kept, axiom-faultless}
 use Rattle.am_theory.proofs.Swapped.{IsSwapped, DeclaresSymbol}
 
 abbrev names_of : List Profile → List (List ℕ)
@@ -63,39 +63,39 @@ module _ (c : Contents) (vs : List Typed) (g : WrittenFormula) where
       ap (is_among w) (sym (axiom-names vs))
       ∙ none-front (bytes_eq w) (axiom_names the_axiom) [] (none-behind (bytes_eq w) (variable_names c) (axiom_names the_axiom ++ []) (parted w e))
 
-  symbol-before : (d : Declaration) → DeclaresSymbol d → IsClean stated d → IsClean c d
+  symbol-before : (d : Declaration) → DeclaresSymbol d → IsFaultless stated d → IsFaultless c d
   unfolding has_unknown_name is_twice is_badly_represented clashes is_over_limit
   symbol-before (decl.Sort n r copy) h k = absurd h
-  symbol-before (decl.Function n args r) h k = symbol-clean stated c (decl.Function n args r) tt k k.known (untaken n k.once) refl refl k.small
-  symbol-before (decl.Relation n args) h k = symbol-clean stated c (decl.Relation n args) tt k k.known (untaken n k.once) refl refl k.small
+  symbol-before (decl.Function n args r) h k = symbol-faultless stated c (decl.Function n args r) tt k k.known (untaken n k.new) refl refl k.few
+  symbol-before (decl.Relation n args) h k = symbol-faultless stated c (decl.Relation n args) tt k k.known (untaken n k.new) refl refl k.few
   symbol-before (decl.Literal n s v) h k =
-      symbol-clean stated c (decl.Literal n s v) tt k k.known
+      symbol-faultless stated c (decl.Literal n s v) tt k k.known
       (none_both (is_taken c n) (list_any (is_literal_of c (sort_number c s) v) c.literals)
-        (untaken n (none_left (is_taken stated n) (list_any (is_literal_of c (sort_number c s) v) c.literals) k.once))
-        (none_right (is_taken stated n) (list_any (is_literal_of c (sort_number c s) v) c.literals) k.once))
-      k.represented refl k.small
+      (untaken n (none_left (is_taken stated n) (list_any (is_literal_of c (sort_number c s) v) c.literals) k.new))
+      (none_right (is_taken stated n) (list_any (is_literal_of c (sort_number c s) v) c.literals) k.new))
+      k.represented refl k.few
   symbol-before (decl.Routine n inputs outputs) h k =
-      symbol-clean stated c (decl.Routine n inputs outputs) tt k k.known
+      symbol-faultless stated c (decl.Routine n inputs outputs) tt k k.known
       (none_both (list_any (is_taken c) (names_in outputs)) _
-        (none-also (is_taken stated) (is_taken c) untaken (names_in outputs) (none_left (list_any (is_taken stated) (names_in outputs)) _ k.once))
-        (none_right (list_any (is_taken stated) (names_in outputs)) _ k.once))
-      k.represented k.apart k.small
-  symbol-before (decl.Value f n args r) h k = symbol-clean stated c (decl.Value f n args r) tt k k.known (untaken n k.once) k.represented k.apart k.small
+      (none-also (is_taken stated) (is_taken c) untaken (names_in outputs) (none_left (list_any (is_taken stated) (names_in outputs)) _ k.new))
+      (none_right (list_any (is_taken stated) (names_in outputs)) _ k.new))
+      k.represented k.apart k.few
+  symbol-before (decl.Value f n args r) h k = symbol-faultless stated c (decl.Value f n args r) tt k k.known (untaken n k.new) k.represented k.apart k.few
   symbol-before (decl.Axiom xs f) h k = absurd h
 
   -- no variable has the name of one of these, which aren't taken
   apart_from : (ns : List (List ℕ)) → list_any (is_taken stated) ns ≡ false → list_any (λ v. is_among v ns) (names_in vs) ≡ false
-  apart_from ns e = apart-turned ns (names_in vs) (none-also (is_taken stated) (λ w. is_among w (names_in vs)) unlike_variables ns e)
+  apart_from ns e = disjoint-turned ns (names_in vs) (none-also (is_taken stated) (λ w. is_among w (names_in vs)) unlike_variables ns e)
 
   -- ---- the axiom behind more symbols
-  module _ (k : IsClean c (decl.Axiom vs g)) (ys : List Profile) (rs : List Routine) (fs : List FortranFunction) (ls : List LiteralDecl) (apart : list_any (λ v. is_among v (names_of ys)) (names_in vs) ≡ false) where
+  module _ (k : IsFaultless c (decl.Axiom vs g)) (ys : List Profile) (rs : List Routine) (fs : List FortranFunction) (ls : List LiteralDecl) (apart : list_any (λ v. is_among v (names_of ys)) (names_in vs) ≡ false) where
     abbrev more : Contents
     more = record c { symbols = c.symbols ++ ys; routines = rs; functions = fs; literals = ls }
 
     extends : Extends (axiom_scope c vs) (axiom_scope more vs)
     extends = record {
       names = λ w i e. ap (position_of w) (map-append _ c.symbols ys) ∙ position_kept w (symbol_names c) (names_of ys) i e;
-      symbols = λ i y e. slice_get-front c.symbols ys i y e;
+      symbols = λ i y e. get-left c.symbols ys i y e;
       bound = refl;
       fits = λ s t. refl;
       akin = λ s t. refl;
@@ -107,11 +107,11 @@ module _ (c : Contents) (vs : List Typed) (g : WrittenFormula) where
         ∙ list_any-append (bytes_eq w) (symbol_names c) (names_of ys)
         ∙ none_both (is_symbol_name c w) (is_among w (names_of ys)) e f
 
-    axiom-behind : IsClean more (decl.Axiom vs g)
+    axiom-behind : IsFaultless more (decl.Axiom vs g)
     unfolding is_twice
     axiom-behind =
-        axiom-clean c vs g k more extends (variables-known c vs g k)
-        (none-either (is_symbol_name c) (λ v. is_among v (names_of ys)) (is_symbol_name more) unnamed (names_in vs) (none_left (list_any (is_symbol_name c) (names_in vs)) _ k.once) apart)
+        axiom-faultless c vs g k more extends (variables-known c vs g k)
+        (none-either (is_symbol_name c) (λ v. is_among v (names_of ys)) (is_symbol_name more) unnamed (names_in vs) (none_left (list_any (is_symbol_name c) (names_in vs)) _ k.new) apart)
         refl
 
     axiom-same : record more { axioms = c.axioms ++ the_axiom ∷ [] } ≡ with_decl more (decl.Axiom vs g)
@@ -123,13 +123,13 @@ module _ (c : Contents) (vs : List Typed) (g : WrittenFormula) where
   output-names inputs (o ∷ os) = ap (λ ns. o.name ∷ ns) (output-names inputs os)
 
   -- ---- all kinds
-  module _ (k : IsClean c (decl.Axiom vs g)) where
-    pub symbol-first : (d : Declaration) → DeclaresSymbol d → IsClean (with_decl c (decl.Axiom vs g)) d → IsSwapped c (decl.Axiom vs g) d
+  module _ (k : IsFaultless c (decl.Axiom vs g)) where
+    pub symbol-first : (d : Declaration) → DeclaresSymbol d → IsFaultless (with_decl c (decl.Axiom vs g)) d → IsSwapped c (decl.Axiom vs g) d
     unfolding with_decl is_twice
     symbol-first (decl.Sort n r copy) h l = absurd h
     symbol-first (decl.Function n args r) h l =
         let ys : List Profile = record { name = n; args = sort_numbers c args; result = Some (sort_number c r); kind = kind.Function } ∷ [] in
-        let apart = apart_from (n ∷ []) (none_both _ false l.once refl) in
+        let apart = apart_from (n ∷ []) (none_both _ false l.new refl) in
         record {
           before = symbol-before (decl.Function n args r) tt l;
           behind = axiom-behind k ys c.routines c.functions c.literals apart;
@@ -137,7 +137,7 @@ module _ (c : Contents) (vs : List Typed) (g : WrittenFormula) where
         }
     symbol-first (decl.Relation n args) h l =
         let ys : List Profile = record { name = n; args = sort_numbers c args; result = None; kind = kind.Relation } ∷ [] in
-        let apart = apart_from (n ∷ []) (none_both _ false l.once refl) in
+        let apart = apart_from (n ∷ []) (none_both _ false l.new refl) in
         record {
           before = symbol-before (decl.Relation n args) tt l;
           behind = axiom-behind k ys c.routines c.functions c.literals apart;
@@ -146,7 +146,7 @@ module _ (c : Contents) (vs : List Typed) (g : WrittenFormula) where
     symbol-first (decl.Literal n s v) h l =
         let ys : List Profile = record { name = n; args = []; result = Some (sort_number c s); kind = kind.Literal } ∷ [] in
         let ls : List LiteralDecl = c.literals ++ record { symbol = next_symbol c; value = v } ∷ [] in
-        let apart = apart_from (n ∷ []) (none_both _ false (none_left (is_taken stated n) _ l.once) refl) in
+        let apart = apart_from (n ∷ []) (none_both _ false (none_left (is_taken stated n) _ l.new) refl) in
         record {
           before = symbol-before (decl.Literal n s v) tt l;
           behind = axiom-behind k ys c.routines c.functions ls apart;
@@ -155,7 +155,7 @@ module _ (c : Contents) (vs : List Typed) (g : WrittenFormula) where
     symbol-first (decl.Routine n inputs outputs) h l =
         let ys : List Profile = map (output_profile c inputs) outputs in
         let rs : List Routine = c.routines ++ record { name = n; inputs = sort_numbers c inputs; outputs = numbers_from (length c.symbols) outputs } ∷ [] in
-        let apart = ap (λ ns. list_any (λ v. is_among v ns) (names_in vs)) (output-names inputs outputs) ∙ apart_from (names_in outputs) (none_left (list_any (is_taken stated) (names_in outputs)) _ l.once) in
+        let apart = ap (λ ns. list_any (λ v. is_among v ns) (names_in vs)) (output-names inputs outputs) ∙ apart_from (names_in outputs) (none_left (list_any (is_taken stated) (names_in outputs)) _ l.new) in
         record {
           before = symbol-before (decl.Routine n inputs outputs) tt l;
           behind = axiom-behind k ys rs c.functions c.literals apart;
@@ -164,7 +164,7 @@ module _ (c : Contents) (vs : List Typed) (g : WrittenFormula) where
     symbol-first (decl.Value f n args r) h l =
         let ys : List Profile = record { name = n; args = sort_numbers c args; result = Some (sort_number c r); kind = kind.Value } ∷ [] in
         let fs : List FortranFunction = c.functions ++ record { name = f; symbol = next_symbol c } ∷ [] in
-        let apart = apart_from (n ∷ []) (none_both _ false l.once refl) in
+        let apart = apart_from (n ∷ []) (none_both _ false l.new refl) in
         record {
           before = symbol-before (decl.Value f n args r) tt l;
           behind = axiom-behind k ys c.routines fs c.literals apart;

@@ -1,10 +1,9 @@
 -- After a run over symbols the declarations of what was added are those of the run.
-use Rattle.std.proofs.Common.{◌≡◌, ◌∙◌, ◌||◌, ◌+◌, ◌<◌, ◌≤◌, ◌==◌, ℕ, zero, suc, Bool, true, false, Option, Some, None, List, [], ◌∷◌, ◌++◌, map, length, cond, refl, sym, ap, subst, arith, append_assoc, length-append, true≢false}
-use Rattle.std.specs.Prelude.{find, slice_get, slice_index_or, IsTrue}
+use Rattle.std.proofs.Common.{◌≡◌, ◌∙◌, ◌+◌, ◌<◌, ◌≤◌, ℕ, Bool, true, false, Some, None, List, [], ◌∷◌, ◌++◌, map, length, cond, refl, sym, ap, subst, arith, append_assoc, length-append, true≢false}
+use Rattle.std.specs.Prelude.{find, slice_get, slice_index_or}
 use Rattle.std.specs.List.{AllByRecursion, list_any}
-use Rattle.std.proofs.lemmas.List.{append-nil, length-map}
+use Rattle.std.proofs.lemmas.List.{length-map}
 use Rattle.am_term.specs.declared.id.SortId.{SortId}
-use Rattle.am_term.specs.declared.id.SymId.{SymId}
 use Rattle.am_term.specs.declared.kind.SymKind.TheVariants as kind
 use Rattle.am_syntax.specs.Scopes.{Profile}
 use Rattle.am_syntax.specs.Forms.{is_some_list}
@@ -18,9 +17,10 @@ use Rattle.am_theory.specs.declared.declaration.Declaration.{Declaration}
 use Rattle.am_theory.specs.declared.declaration.Declaration.TheVariants as decl
 use Rattle.am_theory.specs.Contents.{Contents, sort_number, sort_numbers, output_profile, numbers_from, next_symbol, with_decl}
 use Rattle.am_theory.specs.Faults.{sorts_in, is_unknown_sort, has_unknown_name}
-use Rattle.am_theory.specs.CanonicalText.{sort_name, sort_names, result_name, typed_at, typed_output, is_first, routine_decl, literal_decl, value_decl, symbol_decl, symbol_decls}
+use Rattle.am_theory.specs.CanonicalText.{sort_name, sort_names, typed_at, typed_output, routine_decl, literal_decl, value_decl, symbol_decl, symbol_decls}
 use Rattle.am_theory.specs.Traces.{Trace, IsOfForm}
-use Rattle.am_theory.proofs.Clean.{IsClean, clean_from}
+use Rattle.am_theory.proofs.NoFault.{IsFaultless, faultless}
+use Rattle.am_theory.proofs.Appends.{get-end}
 use Rattle.am_theory.proofs.Joined.{find-behind}
 use Rattle.am_theory.proofs.KnownSorts.{name-back, names-back}
 use Rattle.am_theory.proofs.Grown.{starts, computes, stands_for, other_number, own_number, found_nowhere, IsGrown, ungrown, grown-trans, IsBelow, added, routine_of, grown-one, below-one}
@@ -33,10 +33,6 @@ found_there test xs x ys e f =
     ap (find test) (append_assoc xs (x ∷ []) ys)
     ∙ find-behind test xs (x ∷ ys) e
     ∙ ap (λ b. cond b (Some x) (find test ys)) f
-
-seam : {A : Type 0} (xs : List A) (x : A) (ys : List A) → slice_get (xs ++ x ∷ ys) (length xs) ≡ Some x
-seam [] x ys = refl
-seam (y ∷ xs) x ys = seam xs x ys
 
 decls-append : (c : Contents) (k : ℕ) (xs ys : List Profile) → symbol_decls c k (xs ++ ys) ≡ symbol_decls c k xs ++ symbol_decls c (k + length xs) ys
 decls-append c k [] ys = ap (λ i. symbol_decls c i ys) (let e : k ≡ k + 0 = omega arith in e)
@@ -58,13 +54,13 @@ module _ (c m : Contents) (s : m.sorts ≡ c.sorts) where
   typed-back inputs [] before after i l e f = refl
   typed-back inputs (o ∷ os) before after i l e f =
       ap (λ y. typed_at m y ∷ map (typed_output m) (numbers_from (i + 1) os))
-        (ap (slice_get m.symbols) (sym l) ∙ ap (λ ys. slice_get ys (length before)) e ∙ seam before (output_profile c inputs o) (map (output_profile c inputs) os ++ after))
+      (ap (slice_get m.symbols) (sym l) ∙ ap (λ ys. slice_get ys (length before)) e ∙ get-end before (map (output_profile c inputs) os ++ after) (output_profile c inputs o))
       ∙ ap (λ (w : List ℕ). record { name = o.name; sort = w } ∷ map (typed_output m) (numbers_from (i + 1) os)) (result-back o.sort (none_left (is_unknown_sort c o.sort) (list_any (is_unknown_sort c) (sorts_in os)) f))
       ∙ ap (λ xs. o ∷ xs)
-        (typed-back inputs os (before ++ output_profile c inputs o ∷ []) after (i + 1)
-          (length-append before (output_profile c inputs o ∷ []) ∙ ap (λ j. j + 1) l)
-          (e ∙ sym (append_assoc before (output_profile c inputs o ∷ []) (map (output_profile c inputs) os ++ after)))
-          (none_right (is_unknown_sort c o.sort) (list_any (is_unknown_sort c) (sorts_in os)) f))
+      (typed-back inputs os (before ++ output_profile c inputs o ∷ []) after (i + 1)
+      (length-append before (output_profile c inputs o ∷ []) ∙ ap (λ j. j + 1) l)
+      (e ∙ sym (append_assoc before (output_profile c inputs o ∷ []) (map (output_profile c inputs) os ++ after)))
+      (none_right (is_unknown_sort c o.sort) (list_any (is_unknown_sort c) (sorts_in os)) f))
 
 -- ---- the declaration of what one declaration added, by its kind
 module _ (c m : Contents) (more : List Profile) (b : IsBelow c) where
@@ -87,7 +83,7 @@ module _ (c m : Contents) (more : List Profile) (b : IsBelow c) where
       let y : Profile = record { name = n; args = []; result = Some (sort_number c s); kind = kind.Literal } in
       let l : LiteralDecl = record { symbol = next_symbol c; value = v } in
       ap (λ o. literal_decl m y o ++ [])
-        (ap (find (stands_for (length c.symbols))) g.literals ∙ found_there (stands_for (length c.symbols)) c.literals l g.literals_more (b.literals (length c.symbols) (omega arith)) (own_number (length c.symbols)))
+      (ap (find (stands_for (length c.symbols))) g.literals ∙ found_there (stands_for (length c.symbols)) c.literals l g.literals_more (b.literals (length c.symbols) (omega arith)) (own_number (length c.symbols)))
       ∙ ap (λ w. decl.Literal n w v ∷ []) (result-back c m g.sorts s e)
 
   value-back : (f n : List ℕ) (args : List (List ℕ)) (r : List ℕ) → IsGrown (with_decl c (decl.Value f n args r)) m more → has_unknown_name c (decl.Value f n args r) ≡ false → IsWrittenBack (decl.Value f n args r)
@@ -96,7 +92,7 @@ module _ (c m : Contents) (more : List Profile) (b : IsBelow c) where
       let y : Profile = record { name = n; args = sort_numbers c args; result = Some (sort_number c r); kind = kind.Value } in
       let x : FortranFunction = record { name = f; symbol = next_symbol c } in
       ap (λ o. value_decl m y o ++ [])
-        (ap (find (computes (length c.symbols))) g.functions ∙ found_there (computes (length c.symbols)) c.functions x g.functions_more (b.functions (length c.symbols) (omega arith)) (own_number (length c.symbols)))
+      (ap (find (computes (length c.symbols))) g.functions ∙ found_there (computes (length c.symbols)) c.functions x g.functions_more (b.functions (length c.symbols) (omega arith)) (own_number (length c.symbols)))
       ∙ ap (λ ws. decl.Value f n ws (sort_name m (sort_number c r)) ∷ []) (args-back c m g.sorts args (none_left (list_any (is_unknown_sort c) args) (is_unknown_sort c r) e))
       ∙ ap (λ w. decl.Value f n args w ∷ []) (result-back c m g.sorts r (none_right (list_any (is_unknown_sort c) args) (is_unknown_sort c r) e))
 
@@ -139,7 +135,7 @@ module _ (c m : Contents) (more : List Profile) (b : IsBelow c) where
         ∙ ap (λ ds. decl.Routine n (sort_names m (sort_numbers c inputs)) (map (typed_output m) r.outputs) ∷ ds) (later-nothing os (length c.symbols + 1) (omega arith) (omega arith))
         ∙ ap (λ ws. decl.Routine n ws (map (typed_output m) r.outputs) ∷ []) (args-back c m sorts-there inputs (none_left (list_any (is_unknown_sort c) inputs) (list_any (is_unknown_sort c) (sorts_in (o ∷ os))) e))
         ∙ ap (λ ts. decl.Routine n inputs ts ∷ [])
-          (typed-back c m sorts-there inputs (o ∷ os) c.symbols more (length c.symbols) refl outputs-there (none_right (list_any (is_unknown_sort c) inputs) (list_any (is_unknown_sort c) (sorts_in (o ∷ os))) e))
+        (typed-back c m sorts-there inputs (o ∷ os) c.symbols more (length c.symbols) refl outputs-there (none_right (list_any (is_unknown_sort c) inputs) (list_any (is_unknown_sort c) (sorts_in (o ∷ os))) e))
 
   routine-back : (n : List ℕ) (inputs : List (List ℕ)) (outputs : List Typed) → is_some_list outputs ≡ true → IsGrown (with_decl c (decl.Routine n inputs outputs)) m more → has_unknown_name c (decl.Routine n inputs outputs) ≡ false → IsWrittenBack (decl.Routine n inputs outputs)
   routine-back n inputs [] some g e = absurd (true≢false (sym some))
@@ -152,7 +148,7 @@ pub record AreSymbolsOf (c : Contents) (ds : List Declaration) (last : Contents)
   pub back : symbol_decls last (length c.symbols) more ≡ ds
 
 module _ (some : (n : List ℕ) (inputs : List (List ℕ)) (outputs : List Typed) → IsOfForm (decl.Routine n inputs outputs) → is_some_list outputs ≡ true) where
-  decl-back : (c m : Contents) (more : List Profile) (d : Declaration) → DeclaresSymbol d → IsOfForm d → IsBelow c → IsClean c d → IsGrown (with_decl c d) m more → symbol_decls m (length c.symbols) (added c d) ≡ d ∷ []
+  decl-back : (c m : Contents) (more : List Profile) (d : Declaration) → DeclaresSymbol d → IsOfForm d → IsBelow c → IsFaultless c d → IsGrown (with_decl c d) m more → symbol_decls m (length c.symbols) (added c d) ≡ d ∷ []
   decl-back c m more (decl.Sort n r copy) h f b k g = absurd h
   decl-back c m more (decl.Function n args r) h f b k g = function-back c m more b n args r g k.known
   decl-back c m more (decl.Relation n args) h f b k g = relation-back c m more b n args g k.known
@@ -161,7 +157,7 @@ module _ (some : (n : List ℕ) (inputs : List (List ℕ)) (outputs : List Typed
   decl-back c m more (decl.Value q n args r) h f b k g = value-back c m more b q n args r g k.known
   decl-back c m more (decl.Axiom vs g) h f b k x = absurd h
 
-  one-more : (c last : Contents) (d : Declaration) (ds : List Declaration) → DeclaresSymbol d → IsOfForm d → IsBelow c → IsClean c d → AreSymbolsOf (with_decl c d) ds last → AreSymbolsOf c (d ∷ ds) last
+  one-more : (c last : Contents) (d : Declaration) (ds : List Declaration) → DeclaresSymbol d → IsOfForm d → IsBelow c → IsFaultless c d → AreSymbolsOf (with_decl c d) ds last → AreSymbolsOf c (d ∷ ds) last
   one-more c last d ds h f b k s =
       let one = grown-one c d h in
       record {
@@ -177,4 +173,4 @@ module _ (some : (n : List ℕ) (inputs : List (List ℕ)) (outputs : List Typed
   pub symbols-back : (ds : List Declaration) (c last : Contents) → AllByRecursion DeclaresSymbol ds → Trace c ds last → IsBelow c → AreSymbolsOf c ds last
   symbols-back [] c last all t b = subst (λ (x : Contents). AreSymbolsOf c [] x) t (record { more = []; grown = ungrown c; back = refl })
   symbols-back (d ∷ ds) c last all t b =
-      one-more c last d ds all.0 t.1 b (clean_from c d t.0) (symbols-back ds (with_decl c d) last all.1 t.2 (below-one c b d all.0))
+      one-more c last d ds all.0 t.1 b (faultless c d t.0) (symbols-back ds (with_decl c d) last all.1 t.2 (below-one c b d all.0))

@@ -1,6 +1,6 @@
 -- The first form of a theory's text can be written, is one list high, and gives the version.
 use Rattle.std.proofs.Common.{◌≡◌, ◌∙◌, ◌&&◌, ◌+◌, max, ℕ, true, Option, Some, None, List, [], ◌∷◌, ap}
-use Rattle.std.specs.Prelude.{ℤ, pos, codes, if◌then◌else◌}
+use Rattle.std.specs.Prelude.{pos, codes, if◌then◌else◌}
 use Rattle.std.specs.Str.{bytes_eq}
 use Rattle.am_text.specs.declared.form.Form.{Form}
 use Rattle.am_text.specs.declared.form.FormNode.TheVariants as node

@@ -1,25 +1,22 @@
 -- Lines of the forms of declarations, behind the version, are read as what the declarations are a run to.
-use Rattle.std.proofs.Common.{◌≡◌, ◌∙◌, ◌≤◌, ◌&&◌, ◌+◌, max, ℕ, Bool, true, false, Option, Some, None, List, [], ◌∷◌, map, length, Result, Ok, Err, refl, sym, ap, arith}
-use Rattle.std.specs.Prelude.{pos}
+use Rattle.std.proofs.Common.{◌≡◌, ◌∙◌, ◌≤◌, ℕ, true, Some, None, List, [], ◌∷◌, map, length, Result, Ok, refl, ap, arith}
 use Rattle.std.specs.List.{list_all}
 use Rattle.am_term.proofs.Tests.{and_both}
 use Rattle.am_text.specs.declared.form.Form.{Form}
-use Rattle.am_text.specs.declared.fault.TextFault.{TextFault}
-use Rattle.am_text.specs.Grammar.{height, highest, greatest}
-use Rattle.am_text.specs.Scan.{read}
+use Rattle.am_text.specs.Grammar.{highest}
 use Rattle.am_text.specs.Spelling.{is_writable, bare, lines, ReadsAs}
 use Rattle.am_text.proofs.Trip.{lines_again}
 use Rattle.am_theory.specs.declared.declaration.Declaration.{Declaration}
 use Rattle.am_theory.specs.declared.fault.TheoryFault.{TheoryFault}
 use Rattle.am_theory.specs.Contents.{Contents, nothing, with_decl}
-use Rattle.am_theory.specs.Declarations.{decl_of, version_of}
+use Rattle.am_theory.specs.Declarations.{decl_of}
 use Rattle.am_theory.specs.Faults.{first_kind}
 use Rattle.am_theory.specs.CanonicalText.{decl_form, version_form}
 use Rattle.am_theory.specs.Limits.{file_limit, depth_limit}
 use Rattle.am_theory.specs.Reading.{◌>>=◌, checked, declared_by, declared, read_from, versioned, forms_theory, text_theory, theory}
-use Rattle.am_theory.specs.Traces.{IsOfForm, Trace}
+use Rattle.am_theory.specs.Traces.{Trace}
 use Rattle.am_theory.proofs.VersionForm.{version-writable, version-height, version-read}
-use Rattle.am_theory.proofs.Clean.{clean_from}
+use Rattle.am_theory.proofs.NoFault.{faultless}
 use Rattle.am_theory.proofs.DeclarationAgain.{declaration_again}
 use Rattle.am_theory.proofs.DeclarationHeights.{declaration_low}
 use Rattle.am_theory.proofs.DeclarationPlaces.{same_declaration, same_version}
@@ -29,7 +26,7 @@ use Rattle.am_theory.proofs.SpelledRun.{run_spellable}
 -- ---- forms of a run
 all-writable : (ds : List Declaration) (c last : Contents) → Trace c ds last → list_all is_writable (map decl_form ds) ≡ true
 all-writable [] c last t = refl
-all-writable (d ∷ ds) c last t = and_both (is_writable (decl_form d)) (list_all is_writable (map decl_form ds)) (declaration_written d (run_spellable c d t.1 (clean_from c d t.0))) (all-writable ds (with_decl c d) last t.2)
+all-writable (d ∷ ds) c last t = and_both (is_writable (decl_form d)) (list_all is_writable (map decl_form ds)) (declaration_written d (run_spellable c d t.1 (faultless c d t.0))) (all-writable ds (with_decl c d) last t.2)
 
 all-low : (ds : List Declaration) (c last : Contents) → Trace c ds last → highest (map decl_form ds) ≤ depth_limit
 all-low [] c last t = omega arith
@@ -62,7 +59,7 @@ run-read [] c last (f ∷ fs) t e = absurd cc
 run-read (d ∷ ds) c last [] t e = absurd cc
 run-read (d ∷ ds) c last (f ∷ fs) t e =
     one-read c last d f fs
-    (same_declaration f (decl_form d) (first_bare f (decl_form d) fs (map decl_form ds) e) ∙ declaration_again d (run_spellable c d t.1 (clean_from c d t.0)))
+    (same_declaration f (decl_form d) (first_bare f (decl_form d) fs (map decl_form ds) e) ∙ declaration_again d (run_spellable c d t.1 (faultless c d t.0)))
     t.0
     (run-read ds (with_decl c d) last fs t.2 (rest_bare f (decl_form d) fs (map decl_form ds) e))
 
@@ -78,9 +75,9 @@ pub lines_theory : (ds : List Declaration) (last : Contents) → Trace nothing d
 unfolding theory
 lines_theory ds last t short =
     let r : ReadsAs file_limit depth_limit (lines (version_form ∷ map decl_form ds)) (version_form ∷ map decl_form ds) =
-        lines_again file_limit depth_limit (version_form ∷ map decl_form ds)
-        (and_both (is_writable version_form) (list_all is_writable (map decl_form ds)) version-writable (all-writable ds nothing last t))
-        (let h = all-low ds nothing last t in omega (arith, version-height))
-        short in
+    lines_again file_limit depth_limit (version_form ∷ map decl_form ds)
+    (and_both (is_writable version_form) (list_all is_writable (map decl_form ds)) version-writable (all-writable ds nothing last t))
+    (let h = all-low ds nothing last t in omega (arith, version-height))
+    short in
     ap (text_theory (length (lines (version_form ∷ map decl_form ds)))) r.1
     ∙ headed-read (length (lines (version_form ∷ map decl_form ds))) ds last r.0 t r.2
