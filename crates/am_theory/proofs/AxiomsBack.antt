@@ -1,15 +1,17 @@
 -- After a run over axioms alone there is nothing new beside axioms, and these are written as they were.
 use Rattle.std.proofs.Common.{◌≡◌, ◌∙◌, ℕ, suc, ◌+◌, Bool, true, false, Some, List, [], ◌∷◌, ◌++◌, map, refl, sym, ap, subst, arith, append_assoc}
-use Rattle.std.specs.Prelude.{slice_get, slice_index_or, if◌then◌else◌}
-use Rattle.std.specs.List.{AllByRecursion, list_any}
+use Rattle.std.specs.Prelude.{slice_get, slice_index_or, if◌then◌else◌, not, ◌&&◌}
+use Rattle.std.specs.List.{AllByRecursion, list_any, list_all}
 use Rattle.std.specs.Str.{bytes_eq}
 use Rattle.std.proofs.lemmas.List.{append-nil}
 use Rattle.std.proofs.lemmas.Option.{get_or_from_slice_get, none-some}
 use Rattle.am_term.specs.declared.id.SortId.{SortId}
+use Rattle.am_term.proofs.Tests.{and_left, and_right}
 use Rattle.am_syntax.specs.declared.scope.Standing.TheVariants.{Variable, Input}
 use Rattle.am_syntax.specs.declared.written.Words.TheVariants.{Names}
 use Rattle.am_syntax.specs.declared.written.WrittenFormula.{WrittenFormula}
 use Rattle.am_syntax.specs.Scopes.{standing_of}
+use Rattle.am_syntax.specs.Flaws.{has_quantifier}
 use Rattle.am_syntax.specs.Forms.{is_spellable_formula}
 use Rattle.am_syntax.specs.Meaning.{formula_meaning}
 use Rattle.am_syntax.specs.Naming.{named_formula}
@@ -23,11 +25,12 @@ use Rattle.am_theory.specs.declared.declaration.Declaration.TheVariants as decl
 use Rattle.am_theory.specs.Contents.{Contents, sort_number, symbol_names, bound_from, axiom_scope, variable_of, with_decl}
 use Rattle.am_theory.specs.Faults.{sorts_in, is_unknown_sort, quantifies}
 use Rattle.am_theory.specs.CanonicalText.{typed_variable, axiom_naming, written_axiom}
-use Rattle.am_theory.specs.Traces.{Trace, IsOfForm}
+use Rattle.am_theory.specs.Traces.{Trace, IsOfForm, is_typed}
 use Rattle.am_syntax.proofs.Positions.{same, position_there}
 use Rattle.am_theory.proofs.NoFault.{IsFaultless, faultless}
 use Rattle.am_theory.proofs.KnownSorts.{name-back}
 use Rattle.am_theory.proofs.AxiomKept.{variables-known, heads-known, names-bound}
+use Rattle.am_theory.proofs.DeclarationRead.{read_declaration_is_spellable}
 use Rattle.am_theory.proofs.Swapped.{StatesAxiom}
 
 module _ (c : Contents) where
@@ -109,14 +112,19 @@ one-more c last vs g ds k spelled s = record {
       ∙ ap (λ d. d ∷ ds) (axiom-back c vs g k spelled);
 }
 
-module _ (spelled : (vs : List Typed) (g : WrittenFormula) → IsOfForm (decl.Axiom vs g) → is_spellable_formula Names g ≡ true) where
-  pub axioms-back : (ds : List Declaration) (c last : Contents) → AllByRecursion StatesAxiom ds → Trace c ds last → AreAxiomsOf c ds last
-  axioms-back [] c last all t = subst (λ (b : Contents). AreAxiomsOf c [] b) t (none-more c)
-  axioms-back (decl.Axiom vs g ∷ ds) c last all t =
-      one-more c last vs g ds (faultless c (decl.Axiom vs g) t.0) (spelled vs g t.1) (axioms-back ds (with_decl c (decl.Axiom vs g)) last all.1 t.2)
-  axioms-back (decl.Sort n r copy ∷ ds) c last all t = absurd all.0
-  axioms-back (decl.Function n args r ∷ ds) c last all t = absurd all.0
-  axioms-back (decl.Relation n args ∷ ds) c last all t = absurd all.0
-  axioms-back (decl.Literal n s v ∷ ds) c last all t = absurd all.0
-  axioms-back (decl.Routine n inputs outputs ∷ ds) c last all t = absurd all.0
-  axioms-back (decl.Value m n args r ∷ ds) c last all t = absurd all.0
+-- the formula of an axiom that a form is, and that has no fault, can be a form
+formula-spelled : (c : Contents) (vs : List Typed) (g : WrittenFormula) → IsOfForm (decl.Axiom vs g) → IsFaultless c (decl.Axiom vs g) → is_spellable_formula Names g ≡ true
+formula-spelled c vs g o k =
+    let e = read_declaration_is_spellable c (decl.Axiom vs g) o k.plain in
+    and_left (is_spellable_formula Names g) (not (has_quantifier g)) (and_right (list_all is_typed vs) (is_spellable_formula Names g && not (has_quantifier g)) e)
+
+pub axioms-back : (ds : List Declaration) (c last : Contents) → AllByRecursion StatesAxiom ds → Trace c ds last → AreAxiomsOf c ds last
+axioms-back [] c last all t = subst (λ (b : Contents). AreAxiomsOf c [] b) t (none-more c)
+axioms-back (decl.Axiom vs g ∷ ds) c last all t =
+    one-more c last vs g ds (faultless c (decl.Axiom vs g) t.0) (formula-spelled c vs g t.1 (faultless c (decl.Axiom vs g) t.0)) (axioms-back ds (with_decl c (decl.Axiom vs g)) last all.1 t.2)
+axioms-back (decl.Sort n r copy ∷ ds) c last all t = absurd all.0
+axioms-back (decl.Function n args r ∷ ds) c last all t = absurd all.0
+axioms-back (decl.Relation n args ∷ ds) c last all t = absurd all.0
+axioms-back (decl.Literal n s v ∷ ds) c last all t = absurd all.0
+axioms-back (decl.Routine n inputs outputs ∷ ds) c last all t = absurd all.0
+axioms-back (decl.Value m n args r ∷ ds) c last all t = absurd all.0

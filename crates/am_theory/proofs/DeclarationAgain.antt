@@ -1,6 +1,6 @@
 -- Declarations that can be forms are read from their forms.
 use Rattle.std.proofs.Common.{◌≡◌, ℕ, Bool, true, false, List, [], ◌∷◌, map, Option, Some, None, refl, sym, ap, subst, ◌∙◌}
-use Rattle.std.specs.Prelude.{◌&&◌, ℤ, not, codes, option_map, if◌then◌else◌}
+use Rattle.std.specs.Prelude.{◌&&◌, ℤ, not, codes, option_map}
 use Rattle.std.specs.List.{list_all}
 use Rattle.std.specs.Str.{bytes_eq}
 use Rattle.am_term.specs.Names.{is_name}
@@ -8,7 +8,6 @@ use Rattle.am_text.specs.declared.form.Form.{Form}
 use Rattle.am_text.specs.Spelling.{is_word}
 use Rattle.am_text.proofs.Runs.{both}
 use Rattle.am_syntax.specs.declared.written.Words.TheVariants.{Names}
-use Rattle.am_syntax.specs.declared.written.WrittenTerm.{WrittenTerm}
 use Rattle.am_syntax.specs.declared.written.WrittenAtom.{WrittenAtom}
 use Rattle.am_syntax.specs.declared.written.WrittenAtom.TheVariants as atom
 use Rattle.am_syntax.specs.declared.written.WrittenFormula.{WrittenFormula}
@@ -16,7 +15,7 @@ use Rattle.am_syntax.specs.declared.written.WrittenFormula.TheVariants as made
 use Rattle.am_syntax.specs.InductFormula.{written_formula_induct}
 use Rattle.am_syntax.specs.Flaws.{has_quantifier}
 use Rattle.am_syntax.specs.Forms.{word_form, list_form, headed_form, term_form, formula_form, is_some_list, is_spellable, is_spellable_formula}
-use Rattle.am_syntax.specs.Shapes.{with_first, all_of, some_of, formula_of}
+use Rattle.am_syntax.specs.Shapes.{all_of, some_of}
 use Rattle.am_syntax.proofs.FormEquations.{form-Atom, form-Not, form-And, form-Or, form-Implies, form-Iff, spellable-Atom, quantifier-Quantified}
 use Rattle.am_syntax.proofs.Positions.{same}
 use Rattle.am_syntax.proofs.SpelledRead.{spelled_formula_is_read}
@@ -28,10 +27,10 @@ use Rattle.am_theory.specs.declared.declaration.Typed.{Typed}
 use Rattle.am_theory.specs.declared.declaration.Declaration.{Declaration}
 use Rattle.am_theory.specs.declared.declaration.Declaration.TheVariants as decl
 use Rattle.am_theory.specs.CanonicalText.{number_form, value_form, names_form, typed_form, rep_form, decl_form}
-use Rattle.am_theory.specs.Declarations.{◌>>=◌, word_of, number_of, value_of, list_of, name_of, names_of, typed_of, rep_named, written_rep_of, is_all, head_in, axiom_by, plain_axiom, decl_of}
+use Rattle.am_theory.specs.Declarations.{word_of, number_of, value_of, list_of, name_of, names_of, typed_of, written_rep_of, axiom_by, plain_axiom, decl_of}
 use Rattle.am_theory.specs.Spellable.{is_spellable_declaration}
-use Rattle.am_theory.specs.Traces.{is_typed, fits_rep, is_rep_with, is_written_value}
-use Rattle.am_theory.proofs.FormParts.{no_word, no_forms, node_word, word-at, word-Word, word-List, number-at, number-Number, value-at, value-Number, value-Text, list-at, list-Word, list-List}
+use Rattle.am_theory.specs.Traces.{is_typed, is_rep_with, is_written_value}
+use Rattle.am_theory.proofs.FormParts.{no_word, no_forms, word-at, word-Word, word-List, number-at, number-Number, value-at, value-Number, value-Text, list-at, list-Word, list-List}
 
 -- ---- parts
 pub word-form : (w : List ℕ) → word_of (word_form w) ≡ Some w

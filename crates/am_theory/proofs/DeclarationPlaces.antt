@@ -1,7 +1,6 @@
 -- Which declaration a form is does not hang on its places.
-use Rattle.std.proofs.Common.{◌≡◌, ℕ, Bool, true, false, List, [], ◌∷◌, map, Option, Some, None, refl, sym, ap, ◌∙◌}
-use Rattle.std.specs.Prelude.{ℤ, codes, option_map, if◌then◌else◌}
-use Rattle.std.specs.Str.{bytes_eq}
+use Rattle.std.proofs.Common.{◌≡◌, ℕ, List, [], ◌∷◌, map, Option, Some, None, refl, sym, ap, ◌∙◌}
+use Rattle.std.specs.Prelude.{option_map}
 use Rattle.am_text.specs.declared.form.Form.{Form}
 use Rattle.am_text.specs.declared.form.FormNode.{FormNode}
 use Rattle.am_text.specs.Spelling.{bare, node_bare}
@@ -11,12 +10,9 @@ use Rattle.am_syntax.specs.declared.written.Words.TheVariants.{Names}
 use Rattle.am_syntax.specs.declared.written.WrittenFormula.{WrittenFormula}
 use Rattle.am_syntax.specs.Shapes.{Shape, all_of, some_of, formula_of}
 use Rattle.am_syntax.proofs.PlacesAside.{shape-bare}
-use Rattle.am_theory.specs.declared.theory.LitValue.{LitValue}
-use Rattle.am_theory.specs.declared.declaration.WrittenRep.{WrittenRep}
 use Rattle.am_theory.specs.declared.declaration.Typed.{Typed}
-use Rattle.am_theory.specs.declared.declaration.Declaration.{Declaration}
 use Rattle.am_theory.specs.declared.declaration.Declaration.TheVariants.{Axiom}
-use Rattle.am_theory.specs.Declarations.{◌>>=◌, word_of, number_of, value_of, list_of, if_name, name_of, names_of, typed_in, typed_of, rep_in, rep_by, written_rep_of, sort_decl, function_decl, relation_decl, literal_decl, routine_decl, value_decl, quantified_axiom, plain_axiom, head_in, tail_of, is_all, axiom_by, axiom_decl, decl_headed, decl_in, decl_of, version_in, version_of}
+use Rattle.am_theory.specs.Declarations.{◌>>=◌, word_of, number_of, value_of, list_of, if_name, name_of, names_of, typed_in, typed_of, rep_in, rep_by, written_rep_of, sort_decl, function_decl, relation_decl, literal_decl, routine_decl, value_decl, quantified_axiom, plain_axiom, head_in, tail_of, axiom_by, axiom_decl, decl_headed, decl_in, decl_of, version_in, version_of}
 use Rattle.am_theory.proofs.FormParts.{node_word, word-at, word-List, node_number, number-at, number-List, node_value, value-at, value-List, node_list, list-at, list-Word, list-Number, list-Text, list-List}
 
 pub bare-at : (f : Form) → bare f ≡ record { place = 0; node = node_bare f.node }
@@ -160,7 +156,7 @@ quantified_bare [] = refl
 quantified_bare (v ∷ []) = refl
 quantified_bare (v ∷ g ∷ []) =
     rw (formula-bare g) (list_then (λ (fs : List Form). some_of (map typed_of fs) >>= λ (vs : List Typed). formula_of Names g >>= λ (x : WrittenFormula). Some (Axiom vs x))
-        (λ fs. ap (λ (ts : List (Option Typed)). some_of ts >>= λ (vs : List Typed). formula_of Names g >>= λ (x : WrittenFormula). Some (Axiom vs x)) (each_bare typed_of typed-bare fs)) v)
+    (λ fs. ap (λ (ts : List (Option Typed)). some_of ts >>= λ (vs : List Typed). formula_of Names g >>= λ (x : WrittenFormula). Some (Axiom vs x)) (each_bare typed_of typed-bare fs)) v)
 quantified_bare (v ∷ g ∷ f ∷ fs) = refl
 
 plain_bare : (f : Form) → plain_axiom (bare f) ≡ plain_axiom f

@@ -1,11 +1,11 @@
 -- The forms of declarations that can be forms can be written.
-use Rattle.std.proofs.Common.{◌≡◌, ℕ, Bool, true, false, List, [], ◌∷◌, map, Option, Some, None, refl, sym, ap, ◌∙◌}
+use Rattle.std.proofs.Common.{◌≡◌, ℕ, true, List, [], ◌∷◌, map, Option, Some, None, refl, ◌∙◌}
 use Rattle.std.specs.Prelude.{◌&&◌, ℤ, not, codes}
 use Rattle.std.specs.List.{list_all}
 use Rattle.am_term.specs.Names.{is_name}
 use Rattle.am_text.specs.declared.form.Form.{Form}
 use Rattle.am_text.specs.declared.form.FormNode.TheVariants as node
-use Rattle.am_text.specs.Spelling.{is_word, fits, is_text, is_writable}
+use Rattle.am_text.specs.Spelling.{is_word, fits, is_writable}
 use Rattle.am_text.proofs.Folds.{writable-Number, writable-Text, writable-List, writable-form}
 use Rattle.am_text.proofs.Runs.{both}
 use Rattle.am_syntax.specs.declared.written.Words.TheVariants.{Names}

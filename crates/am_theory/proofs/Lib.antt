@@ -1,13 +1,12 @@
 pub mod Alone
 pub mod Appends
-pub mod AxiomForms
 pub mod AxiomKept
 pub mod AxiomsBack
 pub mod Called
 pub mod CanonicalTextRead
 pub mod DeclarationAgain
-pub mod DeclarationHeights
 pub mod DeclarationPlaces
+pub mod DeclarationRead
 pub mod DeclarationSteps
 pub mod DeclarationWritten
 pub mod DeclaredAgain
@@ -41,7 +40,6 @@ pub mod SoundRoutine
 pub mod SoundSort
 pub mod SoundSymbol
 pub mod SoundValue
-pub mod SpelledRun
 pub mod Swapped
 pub mod SymbolBeforeAxiom
 pub mod SymbolNumbers

@@ -18,19 +18,18 @@ use Rattle.am_theory.specs.Traces.{Trace}
 use Rattle.am_theory.proofs.VersionForm.{version-writable, version-height, version-read}
 use Rattle.am_theory.proofs.NoFault.{faultless}
 use Rattle.am_theory.proofs.DeclarationAgain.{declaration_again}
-use Rattle.am_theory.proofs.DeclarationHeights.{declaration_low}
 use Rattle.am_theory.proofs.DeclarationPlaces.{same_declaration, same_version}
+use Rattle.am_theory.proofs.DeclarationRead.{declaration_no_higher, read_declaration_is_spellable}
 use Rattle.am_theory.proofs.DeclarationWritten.{declaration_written}
-use Rattle.am_theory.proofs.SpelledRun.{run_spellable}
 
 -- ---- forms of a run
 all-writable : (ds : List Declaration) (c last : Contents) → Trace c ds last → list_all is_writable (map decl_form ds) ≡ true
 all-writable [] c last t = refl
-all-writable (d ∷ ds) c last t = and_both (is_writable (decl_form d)) (list_all is_writable (map decl_form ds)) (declaration_written d (run_spellable c d t.1 (faultless c d t.0))) (all-writable ds (with_decl c d) last t.2)
+all-writable (d ∷ ds) c last t = and_both (is_writable (decl_form d)) (list_all is_writable (map decl_form ds)) (declaration_written d (read_declaration_is_spellable c d t.1 (faultless c d t.0).plain)) (all-writable ds (with_decl c d) last t.2)
 
 all-low : (ds : List Declaration) (c last : Contents) → Trace c ds last → highest (map decl_form ds) ≤ depth_limit
 all-low [] c last t = omega arith
-all-low (d ∷ ds) c last t = let h = declaration_low d t.1 in let i = all-low ds (with_decl c d) last t.2 in omega arith
+all-low (d ∷ ds) c last t = let h = declaration_no_higher t.1.form d t.1.read in let l = t.1.low in let i = all-low ds (with_decl c d) last t.2 in omega arith
 
 -- ---- such forms, places aside, are read as what the run leads to
 abbrev ok : Contents → Result Contents TheoryFault
@@ -59,7 +58,7 @@ run-read [] c last (f ∷ fs) t e = absurd cc
 run-read (d ∷ ds) c last [] t e = absurd cc
 run-read (d ∷ ds) c last (f ∷ fs) t e =
     one-read c last d f fs
-    (same_declaration f (decl_form d) (first_bare f (decl_form d) fs (map decl_form ds) e) ∙ declaration_again d (run_spellable c d t.1 (faultless c d t.0)))
+    (same_declaration f (decl_form d) (first_bare f (decl_form d) fs (map decl_form ds) e) ∙ declaration_again d (read_declaration_is_spellable c d t.1 (faultless c d t.0).plain))
     t.0
     (run-read ds (with_decl c d) last fs t.2 (rest_bare f (decl_form d) fs (map decl_form ds) e))
 

@@ -1,10 +1,13 @@
 -- After a run over symbols the declarations of what was added are those of the run.
 use Rattle.std.proofs.Common.{◌≡◌, ◌∙◌, ◌+◌, ◌<◌, ◌≤◌, ℕ, Bool, true, false, Some, None, List, [], ◌∷◌, ◌++◌, map, length, cond, refl, sym, ap, subst, arith, append_assoc, length-append, true≢false}
-use Rattle.std.specs.Prelude.{find, slice_get, slice_index_or}
-use Rattle.std.specs.List.{AllByRecursion, list_any}
+use Rattle.std.specs.Prelude.{find, slice_get, slice_index_or, ◌&&◌}
+use Rattle.std.specs.List.{AllByRecursion, list_any, list_all}
 use Rattle.std.proofs.lemmas.List.{length-map}
 use Rattle.am_term.specs.declared.id.SortId.{SortId}
 use Rattle.am_term.specs.declared.kind.SymKind.TheVariants as kind
+use Rattle.am_term.specs.Names.{is_name}
+use Rattle.am_term.proofs.Tests.{and_right}
+use Rattle.am_text.specs.Spelling.{is_word}
 use Rattle.am_syntax.specs.Scopes.{Profile}
 use Rattle.am_syntax.specs.Forms.{is_some_list}
 use Rattle.am_syntax.proofs.Among.{none_left, none_right}
@@ -18,12 +21,13 @@ use Rattle.am_theory.specs.declared.declaration.Declaration.TheVariants as decl
 use Rattle.am_theory.specs.Contents.{Contents, sort_number, sort_numbers, output_profile, numbers_from, next_symbol, with_decl}
 use Rattle.am_theory.specs.Faults.{sorts_in, is_unknown_sort, has_unknown_name}
 use Rattle.am_theory.specs.CanonicalText.{sort_name, sort_names, typed_at, typed_output, routine_decl, literal_decl, value_decl, symbol_decl, symbol_decls}
-use Rattle.am_theory.specs.Traces.{Trace, IsOfForm}
+use Rattle.am_theory.specs.Traces.{Trace, IsOfForm, is_typed}
 use Rattle.am_theory.proofs.NoFault.{IsFaultless, faultless}
 use Rattle.am_theory.proofs.Appends.{get-end}
 use Rattle.am_theory.proofs.Joined.{find-behind}
 use Rattle.am_theory.proofs.KnownSorts.{name-back, names-back}
 use Rattle.am_theory.proofs.Grown.{starts, computes, stands_for, other_number, own_number, found_nowhere, IsGrown, ungrown, grown-trans, IsBelow, added, routine_of, grown-one, below-one}
+use Rattle.am_theory.proofs.DeclarationRead.{read_declaration_is_spellable}
 use Rattle.am_theory.proofs.Swapped.{DeclaresSymbol}
 
 -- ---- lists
@@ -147,30 +151,37 @@ pub record AreSymbolsOf (c : Contents) (ds : List Declaration) (last : Contents)
   pub grown : IsGrown c last more
   pub back : symbol_decls last (length c.symbols) more ≡ ds
 
-module _ (some : (n : List ℕ) (inputs : List (List ℕ)) (outputs : List Typed) → IsOfForm (decl.Routine n inputs outputs) → is_some_list outputs ≡ true) where
-  decl-back : (c m : Contents) (more : List Profile) (d : Declaration) → DeclaresSymbol d → IsOfForm d → IsBelow c → IsFaultless c d → IsGrown (with_decl c d) m more → symbol_decls m (length c.symbols) (added c d) ≡ d ∷ []
-  decl-back c m more (decl.Sort n r copy) h f b k g = absurd h
-  decl-back c m more (decl.Function n args r) h f b k g = function-back c m more b n args r g k.known
-  decl-back c m more (decl.Relation n args) h f b k g = relation-back c m more b n args g k.known
-  decl-back c m more (decl.Literal n s v) h f b k g = literal-back c m more b n s v g k.known
-  decl-back c m more (decl.Routine n inputs outputs) h f b k g = routine-back c m more b n inputs outputs (some n inputs outputs f) g k.known
-  decl-back c m more (decl.Value q n args r) h f b k g = value-back c m more b q n args r g k.known
-  decl-back c m more (decl.Axiom vs g) h f b k x = absurd h
+-- a routine that a form is has an output
+routine-some : (c : Contents) (n : List ℕ) (inputs : List (List ℕ)) (outputs : List Typed) → IsOfForm (decl.Routine n inputs outputs) → IsFaultless c (decl.Routine n inputs outputs) → is_some_list outputs ≡ true
+routine-some c n inputs outputs o k =
+    let e = read_declaration_is_spellable c (decl.Routine n inputs outputs) o k.plain in
+    and_right (list_all is_typed outputs) (is_some_list outputs)
+    (and_right (list_all is_name inputs) (list_all is_typed outputs && is_some_list outputs)
+    (and_right (is_word n) (list_all is_name inputs && (list_all is_typed outputs && is_some_list outputs)) e))
 
-  one-more : (c last : Contents) (d : Declaration) (ds : List Declaration) → DeclaresSymbol d → IsOfForm d → IsBelow c → IsFaultless c d → AreSymbolsOf (with_decl c d) ds last → AreSymbolsOf c (d ∷ ds) last
-  one-more c last d ds h f b k s =
-      let one = grown-one c d h in
-      record {
-        more = added c d ++ s.more;
-        grown = grown-trans c (with_decl c d) last (added c d) s.more one s.grown;
-        back =
-            decls-append last (length c.symbols) (added c d) s.more
-            ∙ ap (λ xs. xs ++ symbol_decls last (length c.symbols + length (added c d)) s.more) (decl-back c last s.more d h f b k s.grown)
-            ∙ ap (λ i. d ∷ symbol_decls last i s.more) (sym (ap length one.symbols ∙ length-append c.symbols (added c d)))
-            ∙ ap (λ xs. d ∷ xs) s.back;
-      }
+decl-back : (c m : Contents) (more : List Profile) (d : Declaration) → DeclaresSymbol d → IsOfForm d → IsBelow c → IsFaultless c d → IsGrown (with_decl c d) m more → symbol_decls m (length c.symbols) (added c d) ≡ d ∷ []
+decl-back c m more (decl.Sort n r copy) h f b k g = absurd h
+decl-back c m more (decl.Function n args r) h f b k g = function-back c m more b n args r g k.known
+decl-back c m more (decl.Relation n args) h f b k g = relation-back c m more b n args g k.known
+decl-back c m more (decl.Literal n s v) h f b k g = literal-back c m more b n s v g k.known
+decl-back c m more (decl.Routine n inputs outputs) h f b k g = routine-back c m more b n inputs outputs (routine-some c n inputs outputs f k) g k.known
+decl-back c m more (decl.Value q n args r) h f b k g = value-back c m more b q n args r g k.known
+decl-back c m more (decl.Axiom vs g) h f b k x = absurd h
 
-  pub symbols-back : (ds : List Declaration) (c last : Contents) → AllByRecursion DeclaresSymbol ds → Trace c ds last → IsBelow c → AreSymbolsOf c ds last
-  symbols-back [] c last all t b = subst (λ (x : Contents). AreSymbolsOf c [] x) t (record { more = []; grown = ungrown c; back = refl })
-  symbols-back (d ∷ ds) c last all t b =
-      one-more c last d ds all.0 t.1 b (faultless c d t.0) (symbols-back ds (with_decl c d) last all.1 t.2 (below-one c b d all.0))
+one-more : (c last : Contents) (d : Declaration) (ds : List Declaration) → DeclaresSymbol d → IsOfForm d → IsBelow c → IsFaultless c d → AreSymbolsOf (with_decl c d) ds last → AreSymbolsOf c (d ∷ ds) last
+one-more c last d ds h f b k s =
+    let one = grown-one c d h in
+    record {
+      more = added c d ++ s.more;
+      grown = grown-trans c (with_decl c d) last (added c d) s.more one s.grown;
+      back =
+          decls-append last (length c.symbols) (added c d) s.more
+          ∙ ap (λ xs. xs ++ symbol_decls last (length c.symbols + length (added c d)) s.more) (decl-back c last s.more d h f b k s.grown)
+          ∙ ap (λ i. d ∷ symbol_decls last i s.more) (sym (ap length one.symbols ∙ length-append c.symbols (added c d)))
+          ∙ ap (λ xs. d ∷ xs) s.back;
+    }
+
+pub symbols-back : (ds : List Declaration) (c last : Contents) → AllByRecursion DeclaresSymbol ds → Trace c ds last → IsBelow c → AreSymbolsOf c ds last
+symbols-back [] c last all t b = subst (λ (x : Contents). AreSymbolsOf c [] x) t (record { more = []; grown = ungrown c; back = refl })
+symbols-back (d ∷ ds) c last all t b =
+    one-more c last d ds all.0 t.1 b (faultless c d t.0) (symbols-back ds (with_decl c d) last all.1 t.2 (below-one c b d all.0))

@@ -2,6 +2,7 @@ pub mod AxiomScope
 pub mod Canonical
 pub mod CanonicalText
 pub mod Contents
+pub mod DeclarationLaws
 pub mod Declarations
 pub mod Facts
 pub mod Faults
