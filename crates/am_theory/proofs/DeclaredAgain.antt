@@ -1,17 +1,12 @@
 -- The declarations of what a run declares are a run to the same.
-use Rattle.std.proofs.Common.{◌≡◌, ◌∙◌, ℕ, true, List, ◌++◌, map, length, refl, sym, ap, subst, append_assoc}
+use Rattle.std.proofs.Common.{◌≡◌, ◌∙◌, ℕ, List, ◌++◌, map, length, refl, sym, ap, subst, append_assoc}
 use Rattle.std.specs.Prelude.{find}
-use Rattle.am_syntax.specs.declared.written.Words.TheVariants.{Names}
-use Rattle.am_syntax.specs.declared.written.WrittenFormula.{WrittenFormula}
-use Rattle.am_syntax.specs.Forms.{is_some_list, is_spellable_formula}
 use Rattle.am_syntax.specs.Scopes.{Profile}
 use Rattle.am_theory.specs.declared.theory.Axiom.{Axiom}
-use Rattle.am_theory.specs.declared.declaration.Typed.{Typed}
 use Rattle.am_theory.specs.declared.declaration.Declaration.{Declaration}
-use Rattle.am_theory.specs.declared.declaration.Declaration.TheVariants as decl
 use Rattle.am_theory.specs.Contents.{Contents, nothing}
 use Rattle.am_theory.specs.CanonicalText.{sort_decls, symbol_decls, written_axiom, declarations}
-use Rattle.am_theory.specs.Traces.{Trace, IsOfForm}
+use Rattle.am_theory.specs.Traces.{Trace}
 use Rattle.am_theory.proofs.OrderedRun.{Ordered, ordered, run-append}
 use Rattle.am_theory.proofs.SortsBack.{AreSortsOf, sorts-back}
 use Rattle.am_theory.proofs.Grown.{starts, computes, stands_for, IsBelow}
