@@ -2,6 +2,7 @@ pub mod AxiomScope
 pub mod Canonical
 pub mod CanonicalText
 pub mod Contents
+pub mod DeclarationLaws
 pub mod Declarations
 pub mod Facts
 pub mod Faults
@@ -11,4 +12,4 @@ pub mod Lookups
 pub mod Reading
 pub mod Traces
 pub mod Spellable
-pub mod DeclarationLaws
+pub mod RoundTrip

@@ -16,21 +16,23 @@ mod laws_of_declarations;
 mod shapes;
 mod fortran;
 mod kinds;
+mod laws;
 mod limits;
 mod reps;
 mod tables;
-mod laws;
 mod theory;
+mod trip_laws;
 mod writing;
 
 pub use declaration::{Declaration, Typed, WrittenRep};
 pub use fault::{TheoryFault, TheoryKind};
+pub use laws::theories_that_were_read_are_well_formed;
 pub use laws_of_declarations::{
     places_do_not_count, read_declarations_are_no_higher, read_declarations_can_be_spelled,
     spelled_declarations_are_read, spelled_declarations_can_be_written,
 };
-pub use laws::theories_that_were_read_are_well_formed;
 pub use theory::{Axiom, FortranFunction, LitValue, LiteralDecl, Rep, Routine, Theory};
+pub use trip_laws::canonical_text_is_read;
 pub use writing::write_theory;
 
 #[cfg(test)]
