@@ -1,2 +1,4 @@
+mod AddSteps
 mod Distinct
+mod Faultless
 mod KindSteps

@@ -1,3 +1,4 @@
+pub mod Additions
 pub mod AxiomScope
 pub mod Canonical
 pub mod CanonicalText

@@ -8,6 +8,7 @@
 //! `am_text`, `am_clause` and `am_syntax`.
 #![tactic(auto)]
 
+mod adding;
 mod declaration;
 mod fault;
 mod fortran;
