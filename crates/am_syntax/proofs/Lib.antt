@@ -4,3 +4,12 @@ pub mod Looking
 pub mod MeaningSteps
 pub mod NamingSteps
 pub mod Positions
+pub mod ShapeEquations
+pub mod FormEquations
+pub mod FormulaEquations
+pub mod PlacesAside
+pub mod SpelledRead
+pub mod Members
+pub mod ReadSpelled
+pub mod Writable
+pub mod FormAgain

@@ -4,9 +4,11 @@ pub mod FoldFormula
 pub mod Induct
 pub mod InductFormula
 pub mod Shapes
+pub mod Heads
 pub mod Forms
 pub mod Scopes
 pub mod Flaws
 pub mod Meaning
 pub mod Naming
 pub mod Sorted
+pub mod ShapeLaws

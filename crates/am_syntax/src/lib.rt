@@ -10,7 +10,10 @@ mod flaws;
 mod lookups;
 mod meaning;
 mod naming;
+mod forms;
+mod laws_of_shapes;
 mod scope;
+mod shapes;
 mod table;
 mod written;
 
@@ -18,6 +21,17 @@ pub use flaws::{atom_has, formula_has, has_quantifier, term_has};
 pub use lookups::written_sort;
 pub use meaning::{atom_meaning, formula_meaning, literal_meaning, term_meaning};
 pub use naming::{Naming, named_atom, named_formula, named_term};
+pub use forms::{atom_form, formula_form, term_form};
+pub use laws_of_shapes::{
+    places_do_not_count, read_formulas_are_no_higher, read_formulas_can_be_spelled,
+    read_formulas_can_be_written, read_terms_are_no_higher, read_terms_are_their_forms,
+    read_terms_can_be_spelled, read_terms_can_be_written, spelled_formulas_are_read,
+    spelled_formulas_can_be_written, spelled_terms_are_read, spelled_terms_can_be_written,
+};
 pub use scope::{Bound, Flaw, Scope, Standing};
+pub use shapes::{formula_of, literal_of, term_of};
 pub use table::NameTable;
 pub use written::{Words, WrittenAtom, WrittenFormula, WrittenLiteral, WrittenTerm};
+
+#[cfg(test)]
+mod tests;

@@ -1,7 +1,6 @@
 -- The canonical text of a theory: its declarations, one a line, one blank between members; the sorts in
 -- order, the declarations of symbols in order, the axioms in order.
-use Rattle.std.specs.Prelude.{◌+◌, ◌++◌, ◌==◌, ℕ, ℤ, pos, Bool, true, false, Option, Some, None, List, [], ◌∷◌, map, codes, find, slice_get, slice_index_or}
-use Rattle.std.specs.List.{flat_map}
+use Rattle.std.specs.Prelude.{◌+◌, ◌++◌, ◌==◌, ℕ, ℤ, pos, Bool, false, Option, Some, None, List, [], ◌∷◌, map, codes, find, slice_get, slice_index_or}
 use Rattle.am_term.specs.declared.id.SortId.{SortId}
 use Rattle.am_term.specs.declared.id.SymId.{SymId}
 use Rattle.am_term.specs.declared.kind.SymKind.{SymKind}

@@ -1,5 +1,5 @@
 -- Which form is which declaration, by its shape alone. The places of forms don't count.
-use Rattle.std.specs.Prelude.{◌&&◌, ℕ, ℤ, Bool, true, false, Option, Some, None, List, [], ◌∷◌, map, codes, option_map, option_and_then, if◌then◌else◌}
+use Rattle.std.specs.Prelude.{ℕ, ℤ, Bool, false, Option, Some, None, List, [], ◌∷◌, map, codes, option_map, if◌then◌else◌}
 use Rattle.std.specs.Str.{bytes_eq}
 use Rattle.am_term.specs.Names.{is_name}
 use Rattle.am_text.specs.declared.form.Form.{Form}
@@ -7,7 +7,6 @@ use Rattle.am_text.specs.declared.form.FormNode.{FormNode}
 use Rattle.am_text.specs.declared.form.FormNode.TheOpen.{FormNode-F}
 use Rattle.am_text.specs.declared.form.FormNode.TheViews.{out-FormNode}
 use Rattle.am_syntax.specs.declared.written.Words.TheVariants.{Names}
-use Rattle.am_syntax.specs.declared.written.WrittenFormula.{WrittenFormula}
 use Rattle.am_syntax.specs.Shapes.{all_of, some_of, formula_of}
 use Rattle.am_theory.specs.declared.theory.LitValue.{LitValue}
 use Rattle.am_theory.specs.declared.theory.LitValue.TheVariants as value

@@ -1,5 +1,5 @@
 -- What holds of each theory that was read.
-use Rattle.std.specs.Prelude.{◌≡◌, ◌+◌, ◌<◌, ◌≤◌, ◌++◌, ◌==◌, ◌&&◌, ℕ, ℤ, Bool, true, false, not, Option, Some, None, List, [], ◌∷◌, map, length, slice_get, is_some, nat_le, IsTrue}
+use Rattle.std.specs.Prelude.{◌≡◌, ◌+◌, ◌<◌, ◌≤◌, ◌++◌, ◌==◌, ◌&&◌, ℕ, Bool, true, false, not, Option, Some, None, List, [], ◌∷◌, map, length, slice_get, is_some, nat_le, IsTrue}
 use Rattle.std.specs.List.{AllByRecursion, Contains, flat_map, list_all, list_any}
 use Rattle.am_term.specs.declared.id.SortId.{SortId}
 use Rattle.am_term.specs.declared.id.SymId.{SymId}
@@ -23,7 +23,7 @@ use Rattle.am_theory.specs.declared.theory.FortranFunction.{FortranFunction}
 use Rattle.am_theory.specs.declared.theory.LiteralDecl.{LiteralDecl}
 use Rattle.am_theory.specs.declared.theory.Axiom.{Axiom}
 use Rattle.am_theory.specs.declared.theory.Theory.{Theory}
-use Rattle.am_theory.specs.Lookups.{rep_of, copy_of, fortran_names, copy_names}
+use Rattle.am_theory.specs.Lookups.{rep_of, copy_of, copy_names}
 use Rattle.am_theory.specs.Faults.{is_free_name, is_returnable, suits, same_value}
 use Rattle.am_theory.specs.Limits.{sort_limit, symbol_limit, axiom_limit, variable_limit, clause_limit, literal_limit, argument_limit, output_limit, call_limit, length_limit, extent_limit}
 

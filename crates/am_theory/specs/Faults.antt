@@ -1,6 +1,6 @@
 -- When a declaration has a fault, in the light of what the earlier ones declared: each kind is a condition
 -- of its own on the whole declaration. A kind is asked only where no earlier one holds.
-use Rattle.std.specs.Prelude.{◌||◌, ◌&&◌, ◌+◌, ℕ, ℤ, pos, negsuc, Bool, true, false, not, Option, Some, None, List, [], ◌∷◌, ◌++◌, map, length, is_none, is_some, nat_lt, nat_le, slice_get, if◌then◌else◌}
+use Rattle.std.specs.Prelude.{◌||◌, ◌&&◌, ◌+◌, ℕ, ℤ, pos, negsuc, Bool, true, false, not, Option, Some, None, List, ◌++◌, map, length, is_none, is_some, nat_lt, nat_le, slice_get, if◌then◌else◌}
 use Rattle.std.specs.Ordering.{int_eq}
 use Rattle.std.specs.List.{list_any, flat_map}
 use Rattle.std.specs.Str.{bytes_eq}
@@ -16,7 +16,7 @@ use Rattle.am_clause.specs.Count.{count}
 use Rattle.am_syntax.specs.declared.written.WrittenFormula.{WrittenFormula}
 use Rattle.am_syntax.specs.declared.scope.Flaw.TheVariants as flaw
 use Rattle.am_syntax.specs.Positions.{position_of}
-use Rattle.am_syntax.specs.Scopes.{Profile, symbol_at, result_of}
+use Rattle.am_syntax.specs.Scopes.{symbol_at, result_of}
 use Rattle.am_syntax.specs.Flaws.{formula_has, has_quantifier}
 use Rattle.am_syntax.specs.Meaning.{formula_meaning}
 use Rattle.am_theory.specs.declared.theory.Rep.{Rep}

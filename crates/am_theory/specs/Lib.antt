@@ -9,3 +9,6 @@ pub mod Faults
 pub mod Limits
 pub mod Lookups
 pub mod Reading
+pub mod Tabled
+pub mod Traces
+pub mod Spellable

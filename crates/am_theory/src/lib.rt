@@ -10,14 +10,24 @@
 
 mod adding;
 mod declaration;
+mod declaration_forms;
+mod declarations;
 mod fault;
 mod fortran;
 mod kinds;
 mod limits;
+mod reading;
 mod reps;
+mod shapes;
 mod tables;
 mod theory;
+mod writing;
 
 pub use declaration::{Declaration, Typed, WrittenRep};
 pub use fault::{TheoryFault, TheoryKind};
+pub use reading::read_theory;
 pub use theory::{Axiom, FortranFunction, LitValue, LiteralDecl, Rep, Routine, Theory};
+pub use writing::write_theory;
+
+#[cfg(test)]
+mod shape_tests;

@@ -1,0 +1,5 @@
+use Rattle.am_syntax.proofs.SpelledRead.{spelled_formula_is_read}
+use Rattle.am_syntax.proofs.laws_of_shapes.spelled_formulas_are_read.Goals as goal
+
+pub returns : goal.returns
+returns c = spelled_formula_is_read
