@@ -7,13 +7,16 @@ use Rattle.am_text.specs.declared.form.Form.{Form}
 use Rattle.am_text.specs.declared.fault.TextFault.{TextFault}
 use Rattle.am_text.specs.declared.fault.TextKind.{TextKind}
 use Rattle.am_text.specs.declared.fault.TextKind.TheVariants as text
+use Rattle.am_text.specs.Scan.{read}
 use Rattle.am_text.specs.Answers.{no_memory, IsAnswer}
 use Rattle.am_theory.specs.declared.fault.TheoryFault.{TheoryFault}
 use Rattle.am_theory.specs.declared.fault.ReadError.{ReadError}
 use Rattle.am_theory.specs.declared.fault.ReadError.TheVariants as errors
+use Rattle.am_theory.specs.declared.tables.Tables.{Tables}
 use Rattle.am_theory.specs.Contents.{Contents}
-use Rattle.am_theory.specs.Reading.{◌>>=◌, Fails, declared, read_from, text_theory}
-use Rattle.am_theory.specs.Tabled.{text_error}
+use Rattle.am_theory.specs.Limits.{file_limit, depth_limit}
+use Rattle.am_theory.specs.Reading.{◌>>=◌, Fails, Gives, declared, read_from, forms_theory, text_theory, theory}
+use Rattle.am_theory.specs.Tabled.{tabled, text_error}
 
 pub read_at : (i : ℕ) (forms : List Form) (c : Contents) (d : Form) → i < length forms → read_from c (drop i forms) ≡ (declared c (get_or forms i d) >>= λ next. read_from next (drop (i + 1) forms))
 unfolding read_from
@@ -51,3 +54,14 @@ text-fails size p text.NoMemory answer e = tt
 pub text-answer : (size : ℕ) (f : TextFault) (answer : Result (List Form) TextFault) → IsAnswer {X = List Form} (Err f) answer → Fails (text_error f.place f.kind) (text_theory size answer)
 text-answer size f answer (inl e) = subst (λ (g : TextFault). Fails (text_error g.place g.kind) (text_theory size answer)) (sym e) tt
 text-answer size f answer (inr e) = text-fails size f.place f.kind answer e
+
+pub text-theory : (bytes : List ℕ) (f : TextFault) → IsAnswer {X = List Form} (Err f) (read file_limit depth_limit bytes) → Fails (text_error f.place f.kind) (theory bytes)
+unfolding theory
+text-theory bytes f h = text-answer (length bytes) f (read file_limit depth_limit bytes) h
+
+abbrev read_as : List Form → Result (List Form) TextFault
+read_as fs = Ok fs
+
+pub formed-theory : (bytes : List ℕ) (fs : List Form) (r : Result Tables ReadError) → read file_limit depth_limit bytes ≡ read_as fs → Gives tabled r (forms_theory (length bytes) fs) → Gives tabled r (theory bytes)
+unfolding theory
+formed-theory bytes fs r e h = subst (λ (x : Result (List Form) TextFault). Gives tabled r (text_theory (length bytes) x)) (sym e) h

@@ -30,4 +30,6 @@ pub use theory::{Axiom, FortranFunction, LitValue, LiteralDecl, Rep, Routine, Th
 pub use writing::write_theory;
 
 #[cfg(test)]
+mod reader_tests;
+#[cfg(test)]
 mod shape_tests;

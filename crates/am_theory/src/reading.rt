@@ -1,5 +1,7 @@
-ghost use Rattle.std.specs.Prelude.{◌≡◌};
+ghost use Rattle.std.specs.Prelude.{◌≡◌, ◌≤◌, length};
+ghost use Rattle.am_text.specs.Scan.{read};
 ghost use Rattle.am_theory.specs.Contents.{contents, nothing};
+ghost use Rattle.am_theory.specs.Limits.{file_limit, depth_limit};
 ghost use Rattle.am_theory.specs.Reading.{Gives, IsAnswer, declared, read_from, forms_theory, theory};
 ghost use Rattle.am_theory.specs.Tabled.{tabled, text_error};
 
@@ -9,7 +11,7 @@ use crate::kinds::first_kind;
 use crate::shapes::{decl_of, version_of};
 use crate::tables::Tables;
 use crate::theory::Theory;
-use am_text::{Form, TextKind, TextLimits, read_forms};
+use am_text::{Form, TextFault, TextKind, TextLimits, read_forms};
 use std::alloc::Global;
 
 /// How many bytes a file may have.
@@ -83,17 +85,26 @@ fn file_theory(alloc: Global, bytes: &[u8]) -> Result<Tables, ReadError>
         depth: DEPTH_LIMIT,
     };
     match read_forms(alloc, bytes, limits) {
-        Ok(forms) => forms_theory(alloc, bytes.len() as u32, forms.as_slice()),
-        Err(fault) => Err(text_error(fault.place, fault.kind)),
+        Ok(forms) => formed_theory(alloc, bytes, forms.as_slice()),
+        Err(fault) => Err(text_error(fault)),
     }
 }
 
-// The fault that a fault of the text is.
-fn text_error(place: u32, kind: TextKind) -> ReadError
-    ensures { result ≡ text_error place kind }
+// What a file declares whose forms these are, or the first fault.
+fn formed_theory(alloc: Global, bytes: &[u8], forms: &[Form]) -> Result<Tables, ReadError>
+    requires formed { read file_limit depth_limit bytes.now ≡ Ok forms.now }
+    requires few { length bytes.now ≤ file_limit }
+    ensures { Gives tabled result (theory bytes.now) }
 {
-    match kind {
+    forms_theory(alloc, bytes.len() as u32, forms)
+}
+
+// The fault that a fault of the text is.
+fn text_error(fault: TextFault) -> ReadError
+    ensures { result ≡ text_error fault.place fault.kind }
+{
+    match fault.kind {
         TextKind::NoMemory => ReadError::Memory,
-        _ => ReadError::at(place, TheoryKind::Text(kind)),
+        kind => ReadError::at(fault.place, TheoryKind::Text(kind)),
     }
 }
