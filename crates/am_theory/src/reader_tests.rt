@@ -10,7 +10,10 @@ use std::test::Fail;
 /// Files whose first fault is at the mark `!`, which is no part of the file.
 const FAULTS: [(&[u8], TheoryKind); 77] = [
     (b"(theory 1)\n!)", TheoryKind::Text(TextKind::Unopened)),
-    (b"(theory 2)\n(sort a!", TheoryKind::Text(TextKind::Unclosed)),
+    (
+        b"(theory 2)\n(sort a!",
+        TheoryKind::Text(TextKind::Unclosed),
+    ),
     (b"(sort)\n!\xff", TheoryKind::Text(TextKind::BadByte)),
     (b"!", TheoryKind::BadHead),
     (b"; no form\n!", TheoryKind::BadHead),
@@ -22,69 +25,240 @@ const FAULTS: [(&[u8], TheoryKind); 77] = [
     (b"(theory 1)\n!(axiom (all () p))\n", TheoryKind::BadHead),
     (b"!(theory 2)\n", TheoryKind::Version),
     (b"!(theory -1)\n(sort)\n", TheoryKind::Version),
-    (b"(theory 1)\n!(function f (a) b)\n(sort b (double 3))\n", TheoryKind::UnknownName),
-    (b"(theory 1)\n(sort a)\n!(relation p (a b))\n", TheoryKind::UnknownName),
-    (b"(theory 1)\n!(literal one n 1)\n(sort n integer)\n", TheoryKind::UnknownName),
-    (b"(theory 1)\n(sort a double)\n!(routine GET (a) (f a) (g b))\n", TheoryKind::UnknownName),
-    (b"(theory 1)\n(sort a double)\n!(value GET f (a) b)\n", TheoryKind::UnknownName),
-    (b"(theory 1)\n(sort a)\n!(axiom (all ((x a)) p))\n", TheoryKind::UnknownName),
-    (b"(theory 1)\n(sort a)\n!(axiom (all ((x a)) (p x)))\n(relation p (a))\n", TheoryKind::UnknownName),
-    (b"(theory 1)\n(sort a)\n(relation p (a))\n!(axiom (all ((x a)) (p (f x))))\n", TheoryKind::UnknownName),
-    (b"(theory 1)\n(sort a)\n!(sort a double)\n", TheoryKind::Twice),
-    (b"(theory 1)\n(sort a)\n(function f () a)\n!(relation f ())\n", TheoryKind::Twice),
-    (b"(theory 1)\n(sort a)\n(relation p (a))\n(axiom (all ((x a)) (p x)))\n!(function x () a)\n", TheoryKind::Twice),
-    (b"(theory 1)\n(sort a double)\n!(routine GET (a) (f a) (f a))\n", TheoryKind::Twice),
-    (b"(theory 1)\n(sort a double)\n(relation g ())\n!(routine GET (a) (f a) (g a))\n", TheoryKind::Twice),
-    (b"(theory 1)\n(sort a)\n(relation p (a))\n!(axiom (all ((x a) (x a)) (p x)))\n", TheoryKind::Twice),
-    (b"(theory 1)\n(sort a)\n(relation p (a))\n!(axiom (all ((p a)) (p p)))\n", TheoryKind::Twice),
-    (b"(theory 1)\n(sort n integer)\n(literal one n 1)\n!(literal uno n 01)\n", TheoryKind::Twice),
-    (b"(theory 1)\n(sort w (char 5))\n(literal s w \"S\")\n!(literal t w \"S\")\n", TheoryKind::Twice),
-    (b"(theory 1)\n(sort a)\n(sort b)\n(relation p (a))\n!(axiom (all ((x b)) (p x)))\n", TheoryKind::BadSort),
-    (b"(theory 1)\n(sort a)\n(function f () a)\n!(axiom f)\n", TheoryKind::BadSort),
-    (b"(theory 1)\n(sort a)\n(relation p (a))\n(relation q ())\n!(axiom (p q))\n", TheoryKind::BadSort),
-    (b"(theory 1)\n(sort a)\n(sort b)\n!(axiom (all ((x a) (y b)) (= x y)))\n", TheoryKind::BadSort),
-    (b"(theory 1)\n(sort a)\n(sort b)\n(relation p (a))\n!(axiom (all ((x a) (y b)) (and (p x x) (p y))))\n", TheoryKind::BadSort),
-    (b"(theory 1)\n(sort a)\n(relation p (a))\n!(axiom (all ((x a)) (p x x)))\n", TheoryKind::BadArity),
-    (b"(theory 1)\n(sort a)\n(relation p (a))\n!(axiom p)\n", TheoryKind::BadArity),
-    (b"(theory 1)\n(sort a)\n(relation p (a))\n(function k () a)\n!(axiom (all ((x a)) (p (k x))))\n", TheoryKind::BadArity),
+    (
+        b"(theory 1)\n!(function f (a) b)\n(sort b (double 3))\n",
+        TheoryKind::UnknownName,
+    ),
+    (
+        b"(theory 1)\n(sort a)\n!(relation p (a b))\n",
+        TheoryKind::UnknownName,
+    ),
+    (
+        b"(theory 1)\n!(literal one n 1)\n(sort n integer)\n",
+        TheoryKind::UnknownName,
+    ),
+    (
+        b"(theory 1)\n(sort a double)\n!(routine GET (a) (f a) (g b))\n",
+        TheoryKind::UnknownName,
+    ),
+    (
+        b"(theory 1)\n(sort a double)\n!(value GET f (a) b)\n",
+        TheoryKind::UnknownName,
+    ),
+    (
+        b"(theory 1)\n(sort a)\n!(axiom (all ((x a)) p))\n",
+        TheoryKind::UnknownName,
+    ),
+    (
+        b"(theory 1)\n(sort a)\n!(axiom (all ((x a)) (p x)))\n(relation p (a))\n",
+        TheoryKind::UnknownName,
+    ),
+    (
+        b"(theory 1)\n(sort a)\n(relation p (a))\n!(axiom (all ((x a)) (p (f x))))\n",
+        TheoryKind::UnknownName,
+    ),
+    (
+        b"(theory 1)\n(sort a)\n!(sort a double)\n",
+        TheoryKind::Twice,
+    ),
+    (
+        b"(theory 1)\n(sort a)\n(function f () a)\n!(relation f ())\n",
+        TheoryKind::Twice,
+    ),
+    (
+        b"(theory 1)\n(sort a)\n(relation p (a))\n(axiom (all ((x a)) (p x)))\n!(function x () a)\n",
+        TheoryKind::Twice,
+    ),
+    (
+        b"(theory 1)\n(sort a double)\n!(routine GET (a) (f a) (f a))\n",
+        TheoryKind::Twice,
+    ),
+    (
+        b"(theory 1)\n(sort a double)\n(relation g ())\n!(routine GET (a) (f a) (g a))\n",
+        TheoryKind::Twice,
+    ),
+    (
+        b"(theory 1)\n(sort a)\n(relation p (a))\n!(axiom (all ((x a) (x a)) (p x)))\n",
+        TheoryKind::Twice,
+    ),
+    (
+        b"(theory 1)\n(sort a)\n(relation p (a))\n!(axiom (all ((p a)) (p p)))\n",
+        TheoryKind::Twice,
+    ),
+    (
+        b"(theory 1)\n(sort n integer)\n(literal one n 1)\n!(literal uno n 01)\n",
+        TheoryKind::Twice,
+    ),
+    (
+        b"(theory 1)\n(sort w (char 5))\n(literal s w \"S\")\n!(literal t w \"S\")\n",
+        TheoryKind::Twice,
+    ),
+    (
+        b"(theory 1)\n(sort a)\n(sort b)\n(relation p (a))\n!(axiom (all ((x b)) (p x)))\n",
+        TheoryKind::BadSort,
+    ),
+    (
+        b"(theory 1)\n(sort a)\n(function f () a)\n!(axiom f)\n",
+        TheoryKind::BadSort,
+    ),
+    (
+        b"(theory 1)\n(sort a)\n(relation p (a))\n(relation q ())\n!(axiom (p q))\n",
+        TheoryKind::BadSort,
+    ),
+    (
+        b"(theory 1)\n(sort a)\n(sort b)\n!(axiom (all ((x a) (y b)) (= x y)))\n",
+        TheoryKind::BadSort,
+    ),
+    (
+        b"(theory 1)\n(sort a)\n(sort b)\n(relation p (a))\n!(axiom (all ((x a) (y b)) (and (p x x) (p y))))\n",
+        TheoryKind::BadSort,
+    ),
+    (
+        b"(theory 1)\n(sort a)\n(relation p (a))\n!(axiom (all ((x a)) (p x x)))\n",
+        TheoryKind::BadArity,
+    ),
+    (
+        b"(theory 1)\n(sort a)\n(relation p (a))\n!(axiom p)\n",
+        TheoryKind::BadArity,
+    ),
+    (
+        b"(theory 1)\n(sort a)\n(relation p (a))\n(function k () a)\n!(axiom (all ((x a)) (p (k x))))\n",
+        TheoryKind::BadArity,
+    ),
     (b"(theory 1)\n!(sort w (char 0))\n", TheoryKind::BadRep),
     (b"(theory 1)\n!(sort w (char 1025))\n", TheoryKind::BadRep),
-    (b"(theory 1)\n!(sort v (double -3) COPY)\n", TheoryKind::BadRep),
-    (b"(theory 1)\n!(sort v (double 3 1001) COPY)\n", TheoryKind::BadRep),
+    (
+        b"(theory 1)\n!(sort v (double -3) COPY)\n",
+        TheoryKind::BadRep,
+    ),
+    (
+        b"(theory 1)\n!(sort v (double 3 1001) COPY)\n",
+        TheoryKind::BadRep,
+    ),
     (b"(theory 1)\n!(sort v (double 0))\n", TheoryKind::BadRep),
     (b"(theory 1)\n!(sort a double copy)\n", TheoryKind::BadRep),
-    (b"(theory 1)\n(sort a)\n!(literal one a 1)\n", TheoryKind::BadRep),
-    (b"(theory 1)\n(sort a double)\n!(literal one a 1)\n", TheoryKind::BadRep),
-    (b"(theory 1)\n(sort n integer)\n!(literal one n \"1\")\n", TheoryKind::BadRep),
-    (b"(theory 1)\n(sort w (char 2))\n!(literal t w \"\")\n", TheoryKind::BadRep),
-    (b"(theory 1)\n(sort w (char 2))\n!(literal t w \"ABC\")\n", TheoryKind::BadRep),
-    (b"(theory 1)\n(sort w (char 40))\n!(literal t w \"ABCDEFGHIJKLMNOPQRSTUVWXYZ1234567\")\n", TheoryKind::BadRep),
-    (b"(theory 1)\n(sort a)\n(sort b double)\n!(routine GET (b) (f b) (g a))\n", TheoryKind::BadRep),
-    (b"(theory 1)\n(sort w (char 2))\n!(value GET f (w) w)\n", TheoryKind::BadRep),
+    (
+        b"(theory 1)\n(sort a)\n!(literal one a 1)\n",
+        TheoryKind::BadRep,
+    ),
+    (
+        b"(theory 1)\n(sort a double)\n!(literal one a 1)\n",
+        TheoryKind::BadRep,
+    ),
+    (
+        b"(theory 1)\n(sort n integer)\n!(literal one n \"1\")\n",
+        TheoryKind::BadRep,
+    ),
+    (
+        b"(theory 1)\n(sort w (char 2))\n!(literal t w \"\")\n",
+        TheoryKind::BadRep,
+    ),
+    (
+        b"(theory 1)\n(sort w (char 2))\n!(literal t w \"ABC\")\n",
+        TheoryKind::BadRep,
+    ),
+    (
+        b"(theory 1)\n(sort w (char 40))\n!(literal t w \"ABCDEFGHIJKLMNOPQRSTUVWXYZ1234567\")\n",
+        TheoryKind::BadRep,
+    ),
+    (
+        b"(theory 1)\n(sort a)\n(sort b double)\n!(routine GET (b) (f b) (g a))\n",
+        TheoryKind::BadRep,
+    ),
+    (
+        b"(theory 1)\n(sort w (char 2))\n!(value GET f (w) w)\n",
+        TheoryKind::BadRep,
+    ),
     (b"(theory 1)\n!(sort v (double 3))\n", TheoryKind::NoCopy),
-    (b"(theory 1)\n!(sort v (integer 1000))\n", TheoryKind::NoCopy),
-    (b"(theory 1)\n!(sort v (double 3) copy)\n", TheoryKind::BadFortranName),
-    (b"(theory 1)\n(sort a double)\n!(routine T00001 (a) (f a))\n", TheoryKind::BadFortranName),
-    (b"(theory 1)\n(sort a double)\n!(value TOOLONG f (a) a)\n", TheoryKind::BadFortranName),
-    (b"(theory 1)\n(sort a double)\n(routine GET (a) (f a))\n!(routine GET (a) (g a))\n", TheoryKind::NameClash),
-    (b"(theory 1)\n(sort a double)\n(routine GET (a) (f a))\n!(value GET g (a) a)\n", TheoryKind::NameClash),
-    (b"(theory 1)\n(sort a double)\n(sort v (double 3) COPY)\n!(value COPY g (a) a)\n", TheoryKind::NameClash),
-    (b"(theory 1)\n(sort a double)\n(value GET g (a) a)\n!(sort v (double 3) GET)\n", TheoryKind::NameClash),
-    (b"(theory 1)\n(sort a)\n(relation p (a))\n!(axiom (p x))\n", TheoryKind::Unbound),
-    (b"(theory 1)\n(sort a)\n!(axiom (all ((x a)) (= x y)))\n", TheoryKind::Unbound),
-    (b"(theory 1)\n(sort a)\n(relation p (a))\n!(axiom (and (p x) (exists)))\n", TheoryKind::Unbound),
-    (b"(theory 1)\n(sort a)\n(relation p (a))\n!(axiom (all ((x a)) (or (p x) (all ((y b)) (q y)))))\n", TheoryKind::Quantifier),
-    (b"(theory 1)\n!(axiom (not (exists 5)))\n", TheoryKind::Quantifier),
-    (b"(theory 1)\n(sort a)\n!(function f (a a a a a a a a a a a a a) a)\n", TheoryKind::Limit),
-    (b"(theory 1)\n(sort a)\n!(relation p (a a a a a a a a a a a a a))\n", TheoryKind::Limit),
-    (b"(theory 1)\n(sort a double)\n!(value GET f (a a a a a a a a a a a a a) a)\n", TheoryKind::Limit),
-    (b"(theory 1)\n(sort a double)\n!(routine GET (a a a a a a a a a a a a a) (f a))\n", TheoryKind::Limit),
-    (b"(theory 1)\n(sort a double)\n!(routine GET () (b a) (c a) (d a) (e a) (f a) (g a) (h a) (i a) (j a) (k a) (l a) (m a) (n a))\n", TheoryKind::Limit),
-    (b"(theory 1)\n(sort a double)\n!(routine GET (a a a a a a a a a a a a) (b a) (c a) (d a) (e a) (f a) (g a) (h a))\n", TheoryKind::Limit),
-    (b"(theory 1)\n!(sort v (double 3) copy)\n(sort)\n", TheoryKind::BadFortranName),
-    (b"(theory 1)\n(sort a)\n!(relation a-b (a b))\n(sort a)\n", TheoryKind::UnknownName),
+    (
+        b"(theory 1)\n!(sort v (integer 1000))\n",
+        TheoryKind::NoCopy,
+    ),
+    (
+        b"(theory 1)\n!(sort v (double 3) copy)\n",
+        TheoryKind::BadFortranName,
+    ),
+    (
+        b"(theory 1)\n(sort a double)\n!(routine T00001 (a) (f a))\n",
+        TheoryKind::BadFortranName,
+    ),
+    (
+        b"(theory 1)\n(sort a double)\n!(value TOOLONG f (a) a)\n",
+        TheoryKind::BadFortranName,
+    ),
+    (
+        b"(theory 1)\n(sort a double)\n(routine GET (a) (f a))\n!(routine GET (a) (g a))\n",
+        TheoryKind::NameClash,
+    ),
+    (
+        b"(theory 1)\n(sort a double)\n(routine GET (a) (f a))\n!(value GET g (a) a)\n",
+        TheoryKind::NameClash,
+    ),
+    (
+        b"(theory 1)\n(sort a double)\n(sort v (double 3) COPY)\n!(value COPY g (a) a)\n",
+        TheoryKind::NameClash,
+    ),
+    (
+        b"(theory 1)\n(sort a double)\n(value GET g (a) a)\n!(sort v (double 3) GET)\n",
+        TheoryKind::NameClash,
+    ),
+    (
+        b"(theory 1)\n(sort a)\n(relation p (a))\n!(axiom (p x))\n",
+        TheoryKind::Unbound,
+    ),
+    (
+        b"(theory 1)\n(sort a)\n!(axiom (all ((x a)) (= x y)))\n",
+        TheoryKind::Unbound,
+    ),
+    (
+        b"(theory 1)\n(sort a)\n(relation p (a))\n!(axiom (and (p x) (exists)))\n",
+        TheoryKind::Unbound,
+    ),
+    (
+        b"(theory 1)\n(sort a)\n(relation p (a))\n!(axiom (all ((x a)) (or (p x) (all ((y b)) (q y)))))\n",
+        TheoryKind::Quantifier,
+    ),
+    (
+        b"(theory 1)\n!(axiom (not (exists 5)))\n",
+        TheoryKind::Quantifier,
+    ),
+    (
+        b"(theory 1)\n(sort a)\n!(function f (a a a a a a a a a a a a a) a)\n",
+        TheoryKind::Limit,
+    ),
+    (
+        b"(theory 1)\n(sort a)\n!(relation p (a a a a a a a a a a a a a))\n",
+        TheoryKind::Limit,
+    ),
+    (
+        b"(theory 1)\n(sort a double)\n!(value GET f (a a a a a a a a a a a a a) a)\n",
+        TheoryKind::Limit,
+    ),
+    (
+        b"(theory 1)\n(sort a double)\n!(routine GET (a a a a a a a a a a a a a) (f a))\n",
+        TheoryKind::Limit,
+    ),
+    (
+        b"(theory 1)\n(sort a double)\n!(routine GET () (b a) (c a) (d a) (e a) (f a) (g a) (h a) (i a) (j a) (k a) (l a) (m a) (n a))\n",
+        TheoryKind::Limit,
+    ),
+    (
+        b"(theory 1)\n(sort a double)\n!(routine GET (a a a a a a a a a a a a) (b a) (c a) (d a) (e a) (f a) (g a) (h a))\n",
+        TheoryKind::Limit,
+    ),
+    (
+        b"(theory 1)\n!(sort v (double 3) copy)\n(sort)\n",
+        TheoryKind::BadFortranName,
+    ),
+    (
+        b"(theory 1)\n(sort a)\n!(relation a-b (a b))\n(sort a)\n",
+        TheoryKind::UnknownName,
+    ),
     (b"(theory 01)\n(sort a)\n!(sort a)\n", TheoryKind::Twice),
-    (b"(theory 1)\n(sort n integer)\n(sort d double)\n(literal one n 1)\n!(literal one d 1)\n", TheoryKind::Twice),
+    (
+        b"(theory 1)\n(sort n integer)\n(sort d double)\n(literal one n 1)\n!(literal one d 1)\n",
+        TheoryKind::Twice,
+    ),
     (b"(theory 1) (sort a) !(sort a)", TheoryKind::Twice),
 ];
 
@@ -213,7 +387,9 @@ fn limit_is(
     let bytes = numbered(alloc, before, piece, limit, after)?;
     is_read(rt, alloc, bytes.as_slice());
     let bytes = numbered(alloc, before, piece, limit + 1, after)?;
-    let kind = read_theory(alloc, bytes.as_slice()).err().map(|fault| fault.kind);
+    let kind = read_theory(alloc, bytes.as_slice())
+        .err()
+        .map(|fault| fault.kind);
     assert_eq!(rt; kind, Some(TheoryKind::Limit));
     Ok(())
 }
@@ -229,10 +405,30 @@ fn faults_are_found(rt: HostRuntime) -> Result<(), Fail> {
 #[test]
 fn places_are_those_of_declarations(rt: HostRuntime) -> Result<(), Fail> {
     let alloc = rt.alloc();
-    let second = read_theory(alloc, b"(theory 1)\n(function f (a) b)\n(sort b (double 3))\n").err();
-    assert_eq!(rt; second, Some(TheoryFault { place: 11, kind: TheoryKind::UnknownName }));
-    let last = read_theory(alloc, b"(theory 1)\n(sort et double)\n(relation ok (et))\n(axiom (all ((x zz)) (ok x x)))\n").err();
-    assert_eq!(rt; last, Some(TheoryFault { place: 47, kind: TheoryKind::UnknownName }));
+    let second = read_theory(
+        alloc,
+        b"(theory 1)\n(function f (a) b)\n(sort b (double 3))\n",
+    )
+    .err();
+    assert_eq!(rt;
+        second,
+        Some(TheoryFault {
+            place: 11,
+            kind: TheoryKind::UnknownName
+        })
+    );
+    let last = read_theory(
+        alloc,
+        b"(theory 1)\n(sort et double)\n(relation ok (et))\n(axiom (all ((x zz)) (ok x x)))\n",
+    )
+    .err();
+    assert_eq!(rt;
+        last,
+        Some(TheoryFault {
+            place: 47,
+            kind: TheoryKind::UnknownName
+        })
+    );
     Ok(())
 }
 
@@ -264,16 +460,50 @@ fn example_is_read(rt: HostRuntime) -> Result<(), Fail> {
 fn limits_hold(rt: HostRuntime) -> Result<(), Fail> {
     let alloc = rt.alloc();
     limit_is(&rt, alloc, b"(theory 1)\n", b"(sort s#)\n", 256, b"")?;
-    limit_is(&rt, alloc, b"(theory 1)\n", b"(relation r# ())\n", 4096, b"")?;
-    limit_is(&rt, alloc, b"(theory 1)\n(relation p ())\n", b"(axiom p)\n", 2000, b"")?;
-    limit_is(&rt, alloc, b"(theory 1)\n(sort a)\n(relation p ())\n(axiom (all (", b"(x# a)", 32, b") p))\n")?;
-    limit_is(&rt, alloc, b"(theory 1)\n(relation p ())\n(axiom (and ", b"p ", 64, b"))\n")?;
+    limit_is(
+        &rt,
+        alloc,
+        b"(theory 1)\n",
+        b"(relation r# ())\n",
+        4096,
+        b"",
+    )?;
+    limit_is(
+        &rt,
+        alloc,
+        b"(theory 1)\n(relation p ())\n",
+        b"(axiom p)\n",
+        2000,
+        b"",
+    )?;
+    limit_is(
+        &rt,
+        alloc,
+        b"(theory 1)\n(sort a)\n(relation p ())\n(axiom (all (",
+        b"(x# a)",
+        32,
+        b") p))\n",
+    )?;
+    limit_is(
+        &rt,
+        alloc,
+        b"(theory 1)\n(relation p ())\n(axiom (and ",
+        b"p ",
+        64,
+        b"))\n",
+    )?;
     Ok(())
 }
 
 #[test]
 fn literals_are_counted_after_merging(rt: HostRuntime) -> Result<(), Fail> {
     let alloc = rt.alloc();
-    let declared = numbered(alloc, b"(theory 1)\n", b"(relation r# ())\n", 17, b"(axiom (or ")?;
+    let declared = numbered(
+        alloc,
+        b"(theory 1)\n",
+        b"(relation r# ())\n",
+        17,
+        b"(axiom (or ",
+    )?;
     limit_is(&rt, alloc, declared.as_slice(), b"r# ", 16, b"))\n")
 }
