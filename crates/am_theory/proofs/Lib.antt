@@ -8,12 +8,14 @@ pub mod KnownSorts
 pub mod MoreSorts
 pub mod Parents
 pub mod Swapped
+mod AddSteps
+pub mod DeclarationAgain
+pub mod DeclarationPlaces
 pub mod DeclarationSteps
+pub mod DeclarationWritten
+mod Faultless
 pub mod LineSteps
 pub mod OfForm
-pub mod DeclarationPlaces
-pub mod DeclarationAgain
-pub mod DeclarationWritten
 pub mod DeclarationRead
 pub mod Alone
 pub mod Appends
@@ -46,3 +48,4 @@ pub mod SymbolBeforeAxiom
 pub mod SymbolsBack
 pub mod VersionForm
 pub mod WellFormedRead
+mod ReadSteps

@@ -1,3 +1,4 @@
+pub mod Additions
 pub mod AxiomScope
 pub mod Canonical
 pub mod CanonicalText
@@ -10,6 +11,7 @@ pub mod Laws
 pub mod Limits
 pub mod Lookups
 pub mod Reading
+pub mod Tabled
 pub mod Traces
 pub mod Spellable
 pub mod RoundTrip

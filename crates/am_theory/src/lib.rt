@@ -8,6 +8,7 @@
 //! `am_text`, `am_clause` and `am_syntax`.
 #![tactic(auto)]
 
+mod adding;
 mod declaration;
 mod declaration_forms;
 mod declarations;
@@ -17,6 +18,7 @@ mod kinds;
 mod laws;
 mod laws_of_declarations;
 mod limits;
+mod reading;
 mod reps;
 mod shapes;
 mod tables;
@@ -31,9 +33,11 @@ pub use laws_of_declarations::{
     places_do_not_count, read_declarations_are_no_higher, read_declarations_can_be_spelled,
     spelled_declarations_are_read, spelled_declarations_can_be_written,
 };
+pub use reading::read_theory;
 pub use theory::{Axiom, FortranFunction, LitValue, LiteralDecl, Rep, Routine, Theory};
 pub use trip_laws::canonical_text_is_read;
 pub use writing::write_theory;
 
 #[cfg(test)]
+mod reader_tests;
 mod shape_tests;
