@@ -40,4 +40,5 @@ pub use writing::write_theory;
 
 #[cfg(test)]
 mod reader_tests;
+#[cfg(test)]
 mod shape_tests;
