@@ -156,7 +156,7 @@ quantified_bare [] = refl
 quantified_bare (v ∷ []) = refl
 quantified_bare (v ∷ g ∷ []) =
     rw (formula-bare g) (list_then (λ (fs : List Form). some_of (map typed_of fs) >>= λ (vs : List Typed). formula_of Names g >>= λ (x : WrittenFormula). Some (Axiom vs x))
-        (λ fs. ap (λ (ts : List (Option Typed)). some_of ts >>= λ (vs : List Typed). formula_of Names g >>= λ (x : WrittenFormula). Some (Axiom vs x)) (each_bare typed_of typed-bare fs)) v)
+    (λ fs. ap (λ (ts : List (Option Typed)). some_of ts >>= λ (vs : List Typed). formula_of Names g >>= λ (x : WrittenFormula). Some (Axiom vs x)) (each_bare typed_of typed-bare fs)) v)
 quantified_bare (v ∷ g ∷ f ∷ fs) = refl
 
 plain_bare : (f : Form) → plain_axiom (bare f) ≡ plain_axiom f

@@ -1,6 +1,5 @@
 pub mod Additions
 pub mod AxiomScope
-pub mod Canonical
 pub mod CanonicalText
 pub mod Contents
 pub mod DeclarationLaws

@@ -3,9 +3,9 @@
 //!
 //! `specs/Reading.antt` says which theory a file is, or what its first fault is: `Declarations` which
 //! form is which declaration, `Faults` when a declaration has a fault in the light of the earlier ones,
-//! `Contents` what a declaration adds. `Canonical` says which text a theory has, `Facts` what holds of
-//! each theory that was read. The format is this project's own. The crate rests on `am_term`,
-//! `am_text`, `am_clause` and `am_syntax`.
+//! `Contents` what a declaration adds. `CanonicalText` says which text a theory has, `Facts` what holds
+//! of each theory that was read, `RoundTrip` that its canonical text is read as that theory. The format
+//! is this project's own. The crate rests on `am_term`, `am_text`, `am_clause` and `am_syntax`.
 #![tactic(auto)]
 
 mod adding;

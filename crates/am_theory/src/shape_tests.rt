@@ -3,9 +3,7 @@ ghost use Rattle.std.specs.Prelude.{◌≡◌, IfOk, length};
 
 use crate::shapes::{decl_of, version_of};
 use crate::{Axiom, FortranFunction, LitValue, LiteralDecl, Rep, Routine, Theory, write_theory};
-use am_term::{
-    Atom, Formula, Name, NoMemory, Signature, SortId, SymId, SymKind, Symbol, Term,
-};
+use am_term::{Atom, Formula, Name, NoMemory, Signature, SortId, SymId, SymKind, Symbol, Term};
 use am_text::{Form, TextLimits, read_forms};
 use sqlite_items::Items;
 use std::alloc::Global;
