@@ -16,7 +16,6 @@ use Rattle.am_fortran.specs.declared.statement.Statement.{Statement}
 use Rattle.am_fortran.specs.declared.statement.Statement.TheVariants.{Call, Assign, Apply}
 use Rattle.am_exec.specs.Literals.{literal_at}
 use Rattle.am_exec.specs.Run.{name_in, output_sort}
-use Rattle.am_exec.specs.Lawful.{targets}
 use Rattle.am_exec.specs.States.{Store, term_held, entries, listed_term, literal_term, operand_terms}
 
 -- the arguments that a call reads: those at a routine's inputs, the first of a copy
@@ -82,7 +81,7 @@ put_terms t d store (Apply target n args) = applied_terms t store (function_name
 
 -- what the names hold after a statement
 abbrev pub put : Theory → Diagram → Store → Statement → Store
-put t d store s = store ++ entries (targets t s) (put_terms t d store s)
+put t d store s = store ++ entries (target_names t s) (put_terms t d store s)
 
 -- the sort of a term that is there, by the sorts of the inputs
 abbrev pub term_sort : Theory → List SortId → Option Term → Option SortId

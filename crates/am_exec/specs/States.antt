@@ -32,11 +32,12 @@ inputs_from k (d ∷ ds) = (d.0, In k) ∷ inputs_from (suc k) ds
 abbrev pub inputs_held : List (List ℕ × SortId) → Store
 inputs_held ds = inputs_from 0 ds
 
--- the names hold these terms in turn, from now on
-abbrev pub entries : List (List ℕ) → List Term → Store
+-- the names hold these terms in turn; a term for which there is no name goes nowhere
+abbrev pub entries : List (Option (List ℕ)) → List Term → Store
 entries [] ts = []
 entries (n ∷ ns) [] = []
-entries (n ∷ ns) (t ∷ ts) = (n, t) ∷ entries ns ts
+entries (None ∷ ns) (t ∷ ts) = entries ns ts
+entries (Some n ∷ ns) (t ∷ ts) = (n, t) ∷ entries ns ts
 
 -- the term of a literal symbol
 abbrev pub literal_term : SymId → Term

@@ -7,5 +7,8 @@
 #![tactic(auto)]
 
 mod fault;
+mod lookups;
+mod store;
+mod types;
 
 pub use fault::{ExecFault, ExecKind};
