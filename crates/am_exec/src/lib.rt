@@ -6,8 +6,10 @@
 //! solves a diagram. The crate rests on `am_world`, `am_theory`, `am_diagram`, `am_fortran`.
 #![tactic(auto)]
 
+mod declarations;
 mod fault;
 mod lookups;
+mod scene;
 mod store;
 mod types;
 
