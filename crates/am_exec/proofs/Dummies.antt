@@ -1,5 +1,5 @@
 -- Going over the dummies and the declarations.
-use Rattle.std.proofs.Common.{◌≡◌, ◌∙◌, ◌++◌, ◌&&◌, ◌<◌, ◌≤◌, ◌+◌, ◌-◌, ℕ, zero, suc, true, false, Bool, refl, sym, ap, arith, List, [], ◌∷◌, Option, Some, None, map, length, take, drop, slice_get, get_or, append_assoc, drop-cons, add-one, if◌then◌else◌}
+use Rattle.std.proofs.Common.{◌≡◌, ◌∙◌, ◌++◌, ◌&&◌, ◌<◌, ◌≤◌, ◌+◌, ◌-◌, ℕ, zero, suc, true, false, Bool, refl, sym, ap, arith, List, [], ◌∷◌, Option, Some, None, length, take, drop, slice_get, get_or, drop-cons, add-one, if◌then◌else◌}
 use Rattle.std.proofs.Math.Seq.{take-suc}
 use Rattle.std.proofs.lemmas.List.{drop_all, length-take-le}
 use Rattle.std.proofs.lemmas.Grind.{common_steps}

@@ -1,3 +1,5 @@
+pub mod Answering
 pub mod Dummies
 pub mod Names
 pub mod Stores
+pub mod Targets

@@ -1,5 +1,5 @@
 -- Going over operands, and putting terms under names.
-use Rattle.std.proofs.Common.{◌≡◌, ◌++◌, ◌+◌, ℕ, refl, arith, List, [], ◌∷◌, Option, Some, None, min, sum_by, append_assoc}
+use Rattle.std.proofs.Common.{◌≡◌, ◌++◌, ◌+◌, ℕ, refl, List, [], ◌∷◌, Option, Some, None, sum_by}
 use Rattle.std.proofs.lemmas.Grind.{common_steps}
 use Rattle.std.proofs.lemmas.Bool.Decides.{nat_tests}
 use Rattle.std.proofs.lemmas.List.Sums.{sum_by-append}
@@ -8,8 +8,7 @@ use Rattle.am_term.specs.declared.id.SymId.{SymId}
 use Rattle.am_term.specs.declared.term.Term.{Term}
 use Rattle.am_term.specs.Weight.{nodes, nodes-App}
 use Rattle.am_theory.specs.declared.theory.Theory.{Theory}
-use Rattle.am_fortran.specs.declared.statement.Operand.{Operand}
-use Rattle.am_exec.specs.States.{Store, entries, literal_term, listed_term, operand_terms}
+use Rattle.am_exec.specs.States.{Store, entries, literal_term, operand_terms}
 
 pub entries-none : (ns : List (Option (List ℕ))) → entries ns [] ≡ []
 entries-none [] = refl

@@ -1,6 +1,6 @@
 -- Where an item of a unit is at fault: a test for each kind, and the first kind of each item.
 use Rattle.std.specs.Prelude.{◌==◌, ◌+◌, ◌&&◌, ◌||◌, ℕ, Bool, true, false, not, Option, Some, None, List, [], ◌∷◌, map, length, find, slice_get, nat_lt, is_none, is_some, option_map, if◌then◌else◌}
-use Rattle.std.specs.List.{list_any}
+use Rattle.std.specs.List.{list_any, flat_map}
 use Rattle.std.specs.Str.{bytes_eq}
 use Rattle.am_term.specs.declared.id.SortId.{SortId}
 use Rattle.am_term.specs.declared.term.Term.{Term}
@@ -24,8 +24,8 @@ use Rattle.am_fortran.specs.declared.unit.Unit.{Unit as Subroutine}
 use Rattle.am_exec.specs.declared.fault.ExecKind.{ExecKind}
 use Rattle.am_exec.specs.declared.fault.ExecKind.TheVariants.{UnknownRoutine, WrongCount, NotSet, WrongSort, SetTwice, BadDeclaration, TooLarge}
 use Rattle.am_exec.specs.Literals.{literal_at}
-use Rattle.am_exec.specs.Run.{output_sort, is_copy}
-use Rattle.am_exec.specs.Lawful.{dummies_of, further, targets}
+use Rattle.am_exec.specs.Run.{name_in, output_sort, is_copy}
+use Rattle.am_exec.specs.Lawful.{dummies_of, further, listed_target, targets}
 use Rattle.am_exec.specs.Types.{is_scalar, is_text_of_any_length, same_type, dummy_type, local_type, type_by, type_of_name}
 use Rattle.am_exec.specs.States.{Store, term_held, is_held}
 use Rattle.am_exec.specs.Effects.{reads, copied_term, literal_for, target_names, put_terms, put_sorts, term_sort}
@@ -125,6 +125,10 @@ abbrev pub has_wrong_sort : Theory → Diagram → List SortId → Store → Sta
 has_wrong_sort t d ins store (Call n args) = not (fits_call t ins store n (routine_named t n) (reads t (Call n args)))
 has_wrong_sort t d ins store (Assign target from) = not (fits_assign t ins store (output_sort d target) from)
 has_wrong_sort t d ins store (Apply target n args) = not (fits_function t ins store (function_named t n) args)
+
+-- the names among operands
+abbrev pub names_set : List Operand → List (List ℕ)
+names_set = flat_map (λ (o : Operand). listed_target (name_in o))
 
 -- SetTwice: a target holds a term already, or stands twice in the call; a literal never does
 abbrev pub sets_twice : Theory → Store → Statement → Bool

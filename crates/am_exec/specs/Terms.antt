@@ -1,5 +1,5 @@
 -- Running a unit by terms: the outputs' terms, or the first faulty item with its first kind.
-use Rattle.std.specs.Prelude.{◌≡◌, ◌+◌, ◌++◌, ℕ, Option, Some, None, Result, Ok, Err, List, [], ◌∷◌, length, if◌then◌else◌}
+use Rattle.std.specs.Prelude.{◌≡◌, ◌⊎◌, ◌+◌, ◌++◌, ℕ, Option, Some, None, Result, Ok, Err, List, [], ◌∷◌, length, if◌then◌else◌}
 use Rattle.am_term.specs.declared.term.Term.{Term}
 use Rattle.am_theory.specs.declared.theory.Theory.{Theory}
 use Rattle.am_diagram.specs.declared.diagram.Diagram.{Diagram}
@@ -42,14 +42,24 @@ outputs_at item (Some ts) = Ok ts
 abbrev pub ended : Diagram → Subroutine → ℕ → Store → Result (List Term) ExecFault
 ended d u item store = if lacks_dummy u then Err (fault_at item BadDeclaration) else outputs_at item (terms_held store (names_of d.outputs))
 
-abbrev pub unless_faulty : ℕ → Option ExecKind → Result (List Term) ExecFault → Result (List Term) ExecFault
-unless_faulty item None later = later
-unless_faulty item (Some kind) later = Err (fault_at item kind)
+-- first one thing, and with what it gives another; the first fault stands
+infixl 10 ◌>>=◌
+abbrev pub ◌>>=◌ : {A B : Type 0} → Result A ExecFault → (A → Result B ExecFault) → Result B ExecFault
+(Ok x) >>= f = f x
+(Err e) >>= f = Err e
+
+abbrev pub unless : ℕ → Option ExecKind → Store → Result Store ExecFault
+unless item None store = Ok store
+unless item (Some kind) store = Err (fault_at item kind)
+
+-- a statement at the item of this number: what the names hold behind it, or its first kind
+abbrev pub step : Theory → Diagram → Subroutine → ℕ → Store → Statement → Result Store ExecFault
+step t d u item store s = unless item (statement_kind t d u (sorts_in d.inputs) store s) (put t d store s)
 
 -- the statements from the item of this number on, and then the end
 abbrev pub stated : Theory → Diagram → Subroutine → ℕ → Store → List Statement → Result (List Term) ExecFault
 stated t d u item store [] = ended d u item store
-stated t d u item store (s ∷ ss) = unless_faulty item (statement_kind t d u (sorts_in d.inputs) store s) (stated t d u (item + 1) (put t d store s) ss)
+stated t d u item store (s ∷ ss) = step t d u item store s >>= λ next. stated t d u (item + 1) next ss
 
 -- the declarations stand at the items from 2 on
 abbrev pub declared : Theory → Diagram → Subroutine → Option ℕ → Result (List Term) ExecFault
@@ -61,12 +71,11 @@ declared t d u None = stated t d u (length u.declarations + 2) (inputs_held d.in
 unfoldable pub terms : Theory → Diagram → Subroutine → Result (List Term) ExecFault
 terms t d u = if is_bad_head d u then Err (fault_at 1 BadDeclaration) else declared t d u (bad_declaration t d u [] u.declarations)
 
--- an error: the end of memory may come at any item, else it is the first fault
-abbrev pub IsFault : ExecFault → ExecKind → Result (List Term) ExecFault → Type 0
-IsFault f NoMemory terms = Unit {0}
-IsFault f _ terms = terms ≡ Err f
+-- the one fault that may come for any unit
+abbrev pub no_memory : ExecFault
+no_memory = fault_at 0 NoMemory
 
--- the answer is the outputs' terms or the first fault, or that memory is out
-abbrev pub IsAnswer : Result (List Term) ExecFault → Result (List Term) ExecFault → Type 0
-IsAnswer (Ok ts) terms = terms ≡ Ok ts
-IsAnswer (Err f) terms = IsFault f f.kind terms
+-- the answer is what its definition gives, or that memory is out
+abbrev pub IsAnswer : {X : Type 0} → Result X ExecFault → Result X ExecFault → Type 0
+IsAnswer (Ok x) wanted = wanted ≡ Ok x
+IsAnswer (Err f) wanted = (f ≡ no_memory) ⊎ (wanted ≡ Err f)

@@ -1,4 +1,4 @@
-ghost use Rattle.std.specs.Prelude.{◌≡◌, ◌++◌, [], length, take, drop, slice_get, option_copied};
+ghost use Rattle.std.specs.Prelude.{◌≡◌, ◌<◌, IfSome, ◌++◌, [], length, take, drop, slice_get, option_copied};
 ghost use Rattle.am_diagram.specs.Canonical.{names_of};
 ghost use Rattle.am_exec.specs.Lawful.{dummies_of, further as declared_behind};
 ghost use Rattle.am_exec.specs.ItemFaults.{same_names as are_same_names, is_bad_head as is_head_bad, is_local as is_lawful_local, is_function as is_lawful_function, declares as is_declaring, is_bad_declaration as is_declaration_bad, lacks_dummy as is_dummy_lacking, declared_type as type_declared, may_be_set as is_settable};
@@ -53,7 +53,8 @@ fn same_names(names: &[Name], list: &[(Name, SortId)]) -> bool
 /// How many declarations stand before the first bad one, if one is bad.
 #[tactic(auto, using(crate::proofs::Dummies::declaring))]
 pub fn bad_declaration(theory: &Theory, diagram: &Diagram, unit: &Unit) -> Option<usize>
-    ensures { result ≡ first_bad theory.now diagram.now unit.now [] unit.now.declarations }
+    ensures value { result ≡ first_bad theory.now diagram.now unit.now [] unit.now.declarations }
+    ensures within { IfSome result (λ k. k < length unit.now.declarations) }
 {
     let declarations = unit.declarations.as_slice();
     for i in 0..declarations.len() {
@@ -90,13 +91,7 @@ fn dummy_at(diagram: &Diagram, at: usize) -> Option<&(Name, SortId)>
     }
 }
 
-fn declares(
-    theory: &Theory,
-    diagram: &Diagram,
-    unit: &Unit,
-    at: usize,
-    declaration: &Decl,
-) -> bool
+fn declares(theory: &Theory, diagram: &Diagram, unit: &Unit, at: usize, declaration: &Decl) -> bool
     ensures { result ≡ is_declaring theory.now unit.now (slice_get (dummies_of diagram.now) at) declaration.now }
 {
     match dummy_at(diagram, at) {
@@ -142,7 +137,11 @@ pub fn further(unit: &Unit) -> &[Decl]
 {
     let declarations = unit.declarations.as_slice();
     let count = unit.dummies.len();
-    if count <= declarations.len() { &declarations[count..] } else { &[] }
+    if count <= declarations.len() {
+        &declarations[count..]
+    } else {
+        &[]
+    }
 }
 
 /// The type with which a name is declared, if it is.

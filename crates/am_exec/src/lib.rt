@@ -7,10 +7,14 @@
 #![tactic(auto)]
 
 mod declarations;
+mod effects;
 mod fault;
+mod faults;
 mod lookups;
+mod running;
 mod scene;
 mod store;
 mod types;
 
 pub use fault::{ExecFault, ExecKind};
+pub use running::symbolic;

@@ -124,12 +124,7 @@ pub fn operand_terms(
 // The nodes of the term that an operand stands for at a place, but no more than one above the most.
 // Takes no memory.
 #[tactic(auto, using(crate::proofs::Stores::storing))]
-fn operand_nodes(
-    theory: &Theory,
-    store: &[(Name, Term)],
-    place: SortId,
-    operand: &Operand,
-) -> u32
+fn operand_nodes(theory: &Theory, store: &[(Name, Term)], place: SortId, operand: &Operand) -> u32
     ensures { result ≡ min (sum_by nodes (listed_term (operand_stands theory.now store.now place operand.now))) (MOST_NODES + 1) }
 {
     match operand {
