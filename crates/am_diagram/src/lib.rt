@@ -1,9 +1,19 @@
-//! Diagrams: the inputs, objects and outputs of a problem, and the relations between them.
+//! Diagrams: the inputs, objects and outputs of a problem, and the relations between them; diagram
+//! files, their reader, and the goal and the givens as clauses.
 //!
-//! `specs/Canonical.antt` says which text a direct diagram has. The crate rests on `am_term` and
-//! `am_theory`.
+//! `specs/Reading.antt` says which diagram a file is, or what its first fault is: `Declarations` which
+//! form is which declaration, `Faults` when a declaration has a fault in the light of the earlier ones,
+//! `Drafts` what a declaration adds. `Clauses` says what the goal and the givens are, `Facts` what holds
+//! of each diagram that was read. The format is this project's own. The crate rests on `am_term`,
+//! `am_text`, `am_clause`, `am_syntax` and `am_theory`.
 #![tactic(auto)]
 
+mod declaration;
 mod diagram;
+mod draft;
+mod fault;
 
+pub use declaration::Declaration;
 pub use diagram::Diagram;
+pub use draft::Draft;
+pub use fault::{DiagramFault, DiagramKind};

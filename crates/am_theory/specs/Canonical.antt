@@ -1,11 +1,9 @@
 -- The canonical text of a theory that has sorts and routines alone: one declaration a line, one blank
 -- between members.
-use Rattle.std.specs.Prelude.{ℕ, Option, Some, None, List, [], ◌∷◌, ◌++◌, map, codes, slice_index_or}
+use Rattle.std.specs.Prelude.{ℕ, Option, Some, None, List, [], ◌∷◌, ◌++◌, map, codes}
 use Rattle.std.specs.List.{flat_map}
 use Rattle.std.specs.Fmt.{decimal}
-use Rattle.am_term.specs.declared.id.SortId.{SortId}
 use Rattle.am_term.specs.declared.id.SymId.{SymId}
-use Rattle.am_term.specs.declared.symbol.Symbol.{Symbol}
 use Rattle.am_term.specs.declared.signature.Signature.{Signature}
 use Rattle.am_theory.specs.declared.theory.Rep.{Rep}
 use Rattle.am_theory.specs.declared.theory.Rep.TheVariants.{Double, Integer, Logical, Char, DoubleVec, DoubleMat, IntegerVec}

@@ -1,2 +1,9 @@
 pub mod Canonical
+pub mod CanonicalText
+pub mod Contents
+pub mod Declarations
+pub mod Facts
+pub mod Faults
+pub mod Limits
 pub mod Lookups
+pub mod Reading

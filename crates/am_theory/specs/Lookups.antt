@@ -1,6 +1,6 @@
 -- What a theory has under a name or a number.
-use Rattle.std.specs.Prelude.{◌||◌, ◌&&◌, ◌++◌, ℕ, Bool, true, false, Option, Some, None, List, [], ◌∷◌, map, slice_get, slice_index_or, find}
-use Rattle.std.specs.List.{list_any, flat_map}
+use Rattle.std.specs.Prelude.{◌++◌, ℕ, Option, Some, None, List, [], ◌∷◌, map, slice_get, slice_index_or, find}
+use Rattle.std.specs.List.{flat_map}
 use Rattle.std.specs.Str.{bytes_eq}
 use Rattle.am_term.specs.declared.id.SortId.{SortId}
 use Rattle.am_term.specs.declared.id.SymId.{SymId}

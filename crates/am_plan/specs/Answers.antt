@@ -1,0 +1,49 @@
+-- Which answers there is a subroutine for.
+use Rattle.std.specs.Prelude.{◌≡◌, ◌≤◌, ◌&&◌, ℕ, Bool, true, false, Option, Some, None, List, [], ◌∷◌, map, slice_get, IsTrue}
+use Rattle.std.specs.List.{list_all, AllByRecursion}
+use Rattle.am_term.specs.declared.id.SortId.{SortId}
+use Rattle.am_term.specs.declared.symbol.Symbol.{Symbol}
+use Rattle.am_term.specs.declared.signature.Signature.{Signature}
+use Rattle.am_term.specs.declared.term.Term.{Term}
+use Rattle.am_term.specs.declared.term.Term.TheOpen.{Term-F}
+use Rattle.am_term.specs.declared.term.Term.TheFolds.{fold-Term}
+use Rattle.am_term.specs.Symbols.{is_computable}
+use Rattle.am_term.specs.Sorting.{term_fits}
+use Rattle.am_term.specs.Weight.{nodes}
+use Rattle.am_theory.specs.declared.theory.Theory.{Theory}
+use Rattle.am_diagram.specs.declared.diagram.Diagram.{Diagram}
+
+abbrev pub weight_limit : ℕ
+weight_limit = 400
+
+abbrev pub is_computable_symbol : Option Symbol → Bool
+is_computable_symbol None = false
+is_computable_symbol (Some y) = is_computable y.kind
+
+abbrev pub ready_step : Signature → Term-F Bool → Bool
+ready_step sig (Term-F.Var n s) = false
+ready_step sig (Term-F.In k) = true
+ready_step sig (Term-F.App f bs) = is_computable_symbol (slice_get sig.symbols f.0) && list_all (λ b. b) bs
+
+-- it has no variables, and a program can compute each of its symbols
+unfoldable pub is_ready : Signature → Term → Bool
+is_ready sig = fold-Term Bool (ready_step sig)
+
+abbrev pub sorts_of : List (List ℕ × SortId) → List SortId
+sorts_of = map (λ (e : List ℕ × SortId). e.1)
+
+-- a term for an output of this sort
+pub record Serves (t : Theory) (d : Diagram) (sort : SortId) (x : Term) : Type 0 where
+  pub sorted : IsTrue (term_fits t.sig (sorts_of d.inputs) x sort)
+  pub ready : IsTrue (is_ready t.sig x)
+  pub small : nodes x ≤ weight_limit
+
+-- one term for each output
+abbrev pub AllServe : Theory → Diagram → List (List ℕ × SortId) → List Term → Type 0
+AllServe t d [] [] = Unit {0}
+AllServe t d [] (x ∷ xs) = ⊥
+AllServe t d (o ∷ os) [] = ⊥
+AllServe t d (o ∷ os) (x ∷ xs) = Serves t d o.1 x × AllServe t d os xs
+
+abbrev pub IsAnswerFor : Theory → Diagram → List Term → Type 0
+IsAnswerFor t d answer = AllServe t d d.outputs answer

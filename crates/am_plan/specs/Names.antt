@@ -1,0 +1,58 @@
+-- What the terms that calls make are called.
+use Rattle.std.specs.Prelude.{◌+◌, ◌++◌, ◌/◌, ◌%◌, ℕ, Bool, Option, Some, None, List, [], ◌∷◌, if◌then◌else◌}
+use Rattle.am_term.specs.declared.id.SortId.{SortId}
+use Rattle.am_term.specs.declared.term.Term.{Term}
+use Rattle.am_term.specs.Same.{same_term}
+use Rattle.am_theory.specs.declared.theory.Theory.{Theory}
+use Rattle.am_diagram.specs.declared.diagram.Diagram.{Diagram}
+use Rattle.am_plan.specs.Calls.{made}
+
+-- the digit of a number at a power of ten
+abbrev pub digit : ℕ → ℕ → ℕ
+digit n power = 48 + n / power % 10
+
+-- `T` and five digits
+abbrev pub local_name : ℕ → List ℕ
+local_name n = 84 ∷ digit n 10000 ∷ digit n 1000 ∷ digit n 100 ∷ digit n 10 ∷ digit n 1 ∷ []
+
+-- the first of the outputs whose answer is the term
+abbrev pub output_for : Term → List (List ℕ × SortId) → List Term → Option (List ℕ)
+output_for x [] answer = None
+output_for x (o ∷ os) [] = None
+output_for x (o ∷ os) (a ∷ as_) = if same_term x a then Some o.0 else output_for x os as_
+
+-- a term and what it is called
+abbrev pub Named : Type 0
+Named = List ℕ × Term
+
+abbrev pub named_by : Option (List ℕ) → ℕ → Term → Named
+named_by (Some n) k x = (n, x)
+named_by None k x = (local_name k, x)
+
+-- a local was taken for it
+abbrev pub next_local : Option (List ℕ) → ℕ → ℕ
+next_local (Some n) k = k
+next_local None k = k + 1
+
+-- each term by the first output whose answer it is, else by the next local, from number k on
+abbrev pub named_from : ℕ → List (List ℕ × SortId) → List Term → List Term → List Named
+named_from k outputs answer [] = []
+named_from k outputs answer (x ∷ xs) = named_by (output_for x outputs answer) k x ∷ named_from (next_local (output_for x outputs answer) k) outputs answer xs
+
+-- the terms that the calls make, with their names: the locals are T00001 and up
+unfoldable pub named : Theory → Diagram → List Term → List Named
+named t d answer = named_from 1 d.outputs answer (made t answer)
+
+abbrev pub local_by : Option (List ℕ) → Named → List Named
+local_by (Some n) e = []
+local_by None e = e ∷ []
+
+-- the locals with their terms, in order: what is called by no output's name
+abbrev pub locals : List (List ℕ × SortId) → List Term → List Named → List Named
+locals outputs answer [] = []
+locals outputs answer (e ∷ es) = local_by (output_for e.1 outputs answer) e ++ locals outputs answer es
+
+-- what a term is called; nothing where no call makes it
+abbrev pub name_of : List Named → Term → List ℕ
+name_of [] x = []
+name_of (e ∷ es) x = if same_term e.1 x then e.0 else name_of es x

@@ -1,0 +1,9 @@
+pub mod Among
+pub mod Equations
+pub mod FromScope
+pub mod Known
+pub mod Larger
+pub mod LargerFormula
+pub mod WellSorted
+pub mod WellSortedFormula
+pub mod WrittenBack

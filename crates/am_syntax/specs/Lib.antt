@@ -1,0 +1,14 @@
+pub mod Positions
+pub mod Fold
+pub mod FoldFormula
+pub mod Induct
+pub mod InductFormula
+pub mod Shapes
+pub mod Forms
+pub mod Scopes
+pub mod Flaws
+pub mod Meaning
+pub mod Naming
+pub mod Sorted
+pub mod Occurring
+pub mod Laws
