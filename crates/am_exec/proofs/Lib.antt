@@ -1,8 +1,11 @@
 pub mod Answering
+pub mod Declared
 pub mod Dummies
 pub mod Held
+pub mod Listed
 pub mod Names
 pub mod Passing
 pub mod Stores
 pub mod Targets
+pub mod Typing
 pub mod Valued

@@ -60,15 +60,15 @@ names-listed [] = refl
 names-listed (o ∷ os) = ap (λ r. listed_target (name_in o) ++ r) (names-listed os)
 
 -- a sort that fits a place is that of a term that is there
-sorted-there : (t : Theory) (sorts : List SortId) (o : Option Term) (s : SortId) → fits_place t.sig (term_sort t sorts o) s ≡ true → (x : Term) × (o ≡ Some x)
+pub sorted-there : (t : Theory) (sorts : List SortId) (o : Option Term) (s : SortId) → fits_place t.sig (term_sort t sorts o) s ≡ true → (x : Term) × (o ≡ Some x)
 sorted-there t sorts None s e = absurd (true≢false (sym e))
 sorted-there t sorts (Some x) s e = (x, refl)
 
-copied-there : (t : Theory) (sorts : List SortId) (n : List ℕ) (o : Option Term) → is_copied_by t n (term_sort t sorts o) ≡ true → (x : Term) × (o ≡ Some x)
+pub copied-there : (t : Theory) (sorts : List SortId) (n : List ℕ) (o : Option Term) → is_copied_by t n (term_sort t sorts o) ≡ true → (x : Term) × (o ≡ Some x)
 copied-there t sorts n None e = absurd (true≢false (sym e))
 copied-there t sorts n (Some x) e = (x, refl)
 
-scalar-there : (t : Theory) (sorts : List SortId) (o : Option Term) → is_scalar_sort t (term_sort t sorts o) ≡ true → (x : Term) × (o ≡ Some x)
+pub scalar-there : (t : Theory) (sorts : List SortId) (o : Option Term) → is_scalar_sort t (term_sort t sorts o) ≡ true → (x : Term) × (o ≡ Some x)
 scalar-there t sorts None e = absurd (true≢false (sym e))
 scalar-there t sorts (Some x) e = (x, refl)
 
@@ -81,12 +81,12 @@ literal-there-of None e = absurd (true≢false (sym e))
 literal-there-of (Some f) e = (literal_term f, refl)
 
 -- an operand that fits its place stands for a term
-operand-there : (t : Theory) (sorts : List SortId) (store : Store) (s : SortId) (o : Operand) → fits_operand t sorts store s o ≡ true → (x : Term) × (operand_term t store s o ≡ Some x)
+pub operand-there : (t : Theory) (sorts : List SortId) (store : Store) (s : SortId) (o : Operand) → fits_operand t sorts store s o ≡ true → (x : Term) × (operand_term t store s o ≡ Some x)
 operand-there t sorts store s (operand.Name n) e = sorted-there t sorts (term_held store n) s e
 operand-there t sorts store s (operand.Int z) e = literal-there (literal_at t s (operand.Int z)) e
 operand-there t sorts store s (operand.Text x) e = literal-there (literal_at t s (operand.Text x)) e
 
-assigned-there : (t : Theory) (sorts : List SortId) (store : Store) (place : Option SortId) (o : Operand) → fits_assign t sorts store place o ≡ true → (x : Term) × (assigned_term t store place o ≡ Some x)
+pub assigned-there : (t : Theory) (sorts : List SortId) (store : Store) (place : Option SortId) (o : Operand) → fits_assign t sorts store place o ≡ true → (x : Term) × (assigned_term t store place o ≡ Some x)
 assigned-there t sorts store place (operand.Name n) e = scalar-there t sorts (term_held store n) e
 assigned-there t sorts store place (operand.Int z) e = literal-there-of (literal_for t place (operand.Int z)) e
 assigned-there t sorts store place (operand.Text x) e = literal-there-of (literal_for t place (operand.Text x)) e
@@ -261,10 +261,10 @@ module _ (w : Interpretation) (ins : List ℕ) (a : Assignment) where
       runs : executed w t d s state ≡ Some new
       agrees : Agree (put t d store s) new
 
-    free_targets : (s : Statement) → Passes t d u sorts store s → list_any (is_held store) (targets t s) ≡ false
+    pub free_targets : (s : Statement) → Passes t d u sorts store s → list_any (is_held store) (targets t s) ≡ false
     free_targets s p = or_false-left (list_any (is_held store) (targets t s)) (not (are_distinct (targets t s))) p.once
 
-    right_targets : (s : Statement) → Passes t d u sorts store s → are_targets t d u (target_names t s) (put_sorts t d sorts store s) ≡ true
+    pub right_targets : (s : Statement) → Passes t d u sorts store s → are_targets t d u (target_names t s) (put_sorts t d sorts store s) ≡ true
     right_targets s p = false_not (are_targets t d u (target_names t s) (put_sorts t d sorts store s)) (or_false-right (applies_undeclared u s) (not (are_targets t d u (target_names t s) (put_sorts t d sorts store s))) (or_false-right (lacks_dummy u) (applies_undeclared u s || not (are_targets t d u (target_names t s) (put_sorts t d sorts store s))) p.declared))
 
     ran : (s : Statement) → Passes t d u sorts store s → Ran s
