@@ -5,6 +5,7 @@ pub mod Held
 pub mod Listed
 pub mod Names
 pub mod Passing
+pub mod Ruled
 pub mod Stores
 pub mod Targets
 pub mod Typing

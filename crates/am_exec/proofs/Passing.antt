@@ -1,7 +1,10 @@
 -- What holds where a unit's run by terms has no fault.
-use Rattle.std.proofs.Common.{◌≡◌, ◌∙◌, ◌+◌, ℕ, true, false, Bool, refl, sym, ap, List, [], ◌∷◌, Option, Some, None, Result, Ok, Err, length, if◌then◌else◌}
+use Rattle.std.proofs.Common.{◌≡◌, ◌∙◌, ◌+◌, ◌||◌, ℕ, true, false, Bool, not, refl, sym, ap, List, [], ◌∷◌, Option, Some, None, Result, Ok, Err, length, if◌then◌else◌}
+use Rattle.std.specs.List.{list_any}
 use Rattle.am_term.specs.declared.id.SortId.{SortId}
 use Rattle.am_term.specs.declared.term.Term.{Term}
+use Rattle.am_term.specs.NameLists.{are_distinct}
+use Rattle.am_term.proofs.Tests.{false_not}
 use Rattle.am_theory.specs.declared.theory.Theory.{Theory}
 use Rattle.am_diagram.specs.declared.diagram.Diagram.{Diagram}
 use Rattle.am_diagram.specs.Canonical.{names_of, sorts_in}
@@ -10,9 +13,11 @@ use Rattle.am_fortran.specs.declared.unit.Unit.{Unit as Subroutine}
 use Rattle.am_exec.specs.declared.fault.ExecKind.{ExecKind}
 use Rattle.am_exec.specs.declared.fault.ExecKind.TheVariants.{UnknownRoutine, WrongCount, NotSet, WrongSort, SetTwice, BadDeclaration, TooLarge}
 use Rattle.am_exec.specs.declared.fault.ExecFault.{ExecFault}
-use Rattle.am_exec.specs.States.{Store, inputs_held}
-use Rattle.am_exec.specs.Effects.{reads, put}
-use Rattle.am_exec.specs.ItemFaults.{is_unknown, has_wrong_count, first_unset, has_wrong_sort, sets_twice, is_bad_head, lacks_dummy, is_badly_declared, is_too_large, not_set_or, statement_kind}
+use Rattle.am_exec.specs.Lawful.{targets}
+use Rattle.am_exec.specs.States.{Store, is_held, inputs_held}
+use Rattle.am_exec.specs.Effects.{reads, target_names, put_sorts, put}
+use Rattle.am_exec.specs.ItemFaults.{are_targets, applies_undeclared, is_unknown, has_wrong_count, first_unset, has_wrong_sort, sets_twice, is_bad_head, lacks_dummy, is_badly_declared, is_too_large, not_set_or, statement_kind}
+use Rattle.am_exec.proofs.Held.{or_false-left, or_false-right}
 use Rattle.am_exec.specs.Terms.{◌>>=◌, fault_at, bad_declaration, terms_held, outputs_at, ended, unless, step, stated, declared, terms}
 
 -- a test that isn't met, and what follows it
@@ -52,6 +57,24 @@ passes t d u ins store s e =
     let h = later (is_badly_declared t d u ins store s) BadDeclaration _ g.later in
     let i = later (is_too_large t d store s) TooLarge None h.later in
     record { known = a.not_here; counted = b.not_here; set = c.set; sorted = f.not_here; once = g.not_here; declared = h.not_here; small = i.not_here }
+
+module _ (t : Theory) (d : Diagram) (u : Subroutine) (ins : List SortId) (store : Store) (s : Statement) (p : Passes t d u ins store s) where
+  -- no target holds a term, and none stands twice
+  pub free_targets : list_any (is_held store) (targets t s) ≡ false
+  free_targets = or_false-left (list_any (is_held store) (targets t s)) (not (are_distinct (targets t s))) p.once
+
+  pub distinct_targets : are_distinct (targets t s) ≡ true
+  distinct_targets = false_not (are_distinct (targets t s)) (or_false-right (list_any (is_held store) (targets t s)) (not (are_distinct (targets t s))) p.once)
+
+  abbrev right : Bool
+  right = are_targets t d u (target_names t s) (put_sorts t d ins store s)
+
+  -- each target is a name with the right type, and a function applied is declared
+  pub right_targets : are_targets t d u (target_names t s) (put_sorts t d ins store s) ≡ true
+  right_targets = false_not right (or_false-right (applies_undeclared u s) (not right) (or_false-right (lacks_dummy u) (applies_undeclared u s || not right) p.declared))
+
+  pub applied_declared : applies_undeclared u s ≡ false
+  applied_declared = or_false-left (applies_undeclared u s) (not right) (or_false-right (lacks_dummy u) (applies_undeclared u s || not right) p.declared)
 
 -- each statement passes in the store before it, and the end does
 abbrev pub AllPass : Theory → Diagram → Subroutine → Store → List Statement → List Term → Type 0

@@ -32,7 +32,7 @@ use Rattle.am_exec.specs.Effects.{read_by_call, set_by_call, target_names, held_
 use Rattle.am_exec.specs.ItemFaults.{is_unknown_call, call_count, is_copied_by, is_scalar_sort, lacks_dummy, applies_undeclared, fits_operand, fit_operands, fits_call, fits_assign, fits_function, is_target, are_targets}
 use Rattle.am_exec.specs.Terms.{terms_held, with_term}
 use Rattle.am_exec.proofs.Held.{or_else, or_false-left, or_false-right, or_both, held-append, fresh}
-use Rattle.am_exec.proofs.Passing.{Passes, AllPass, UnitPasses}
+use Rattle.am_exec.proofs.Passing.{Passes, free_targets, right_targets, AllPass, UnitPasses}
 
 -- numbers under names in turn, as terms are put
 abbrev number_entries : List (Option (List ℕ)) → List ℕ → State
@@ -261,15 +261,9 @@ module _ (w : Interpretation) (ins : List ℕ) (a : Assignment) where
       runs : executed w t d s state ≡ Some new
       agrees : Agree (put t d store s) new
 
-    pub free_targets : (s : Statement) → Passes t d u sorts store s → list_any (is_held store) (targets t s) ≡ false
-    free_targets s p = or_false-left (list_any (is_held store) (targets t s)) (not (are_distinct (targets t s))) p.once
-
-    pub right_targets : (s : Statement) → Passes t d u sorts store s → are_targets t d u (target_names t s) (put_sorts t d sorts store s) ≡ true
-    right_targets s p = false_not (are_targets t d u (target_names t s) (put_sorts t d sorts store s)) (or_false-right (applies_undeclared u s) (not (are_targets t d u (target_names t s) (put_sorts t d sorts store s))) (or_false-right (lacks_dummy u) (applies_undeclared u s || not (are_targets t d u (target_names t s) (put_sorts t d sorts store s))) p.declared))
-
     ran : (s : Statement) → Passes t d u sorts store s → Ran s
     ran (Call n args) p =
-        let c = call-ran n (routine_named t n) args p.known (false_not (length args == call_count (routine_named t n)) p.counted) (false_not (fits_call t sorts store n (routine_named t n) (read_by_call (routine_named t n) args)) p.sorted) (free_targets (Call n args) p) (right_targets (Call n args) p) in
+        let c = call-ran n (routine_named t n) args p.known (false_not (length args == call_count (routine_named t n)) p.counted) (false_not (fits_call t sorts store n (routine_named t n) (read_by_call (routine_named t n) args)) p.sorted) (free_targets t d u sorts store (Call n args) p) (right_targets t d u sorts store (Call n args) p) in
         record { new = c.new; runs = c.runs; agrees = c.agrees }
     ran (Assign target from) p =
         let x = assigned-there t sorts store (output_sort d target) from (false_not (fits_assign t sorts store (output_sort d target) from) p.sorted) in
@@ -277,10 +271,10 @@ module _ (w : Interpretation) (ins : List ℕ) (a : Assignment) where
           new = (target, value w ins a x.0) ∷ state;
           runs = ap (option_map (λ v. (target, v) ∷ state)) (assigned-valued (output_sort d target) from ∙ ap (option_map (value w ins a)) x.1);
           agrees = subst (λ (o : Option Term). Agree (store ++ entries (Some target ∷ []) (listed_term o)) ((target, value w ins a x.0) ∷ state)) (sym x.1)
-              (agree-one target x.0 (value w ins a x.0) refl (or_false-left (is_held store target) false (free_targets (Assign target from) p)));
+              (agree-one target x.0 (value w ins a x.0) refl (or_false-left (is_held store target) false (free_targets t d u sorts store (Assign target from) p)));
         }
     ran (Apply target n args) p =
-        let c = apply-ran target (function_named t n) args (false_not (fits_function t sorts store (function_named t n) args) p.sorted) (or_false-left (is_held store target) false (free_targets (Apply target n args) p)) in
+        let c = apply-ran target (function_named t n) args (false_not (fits_function t sorts store (function_named t n) args) p.sorted) (or_false-left (is_held store target) false (free_targets t d u sorts store (Apply target n args) p)) in
         record { new = c.new; runs = c.runs; agrees = c.agrees }
 
   -- what the outputs hold
