@@ -1,5 +1,5 @@
 -- What the tests of the head and of declarations tell.
-use Rattle.std.proofs.Common.{◌≡◌, ◌∙◌, ◌⊎◌, inl, inr, ◌++◌, ◌&&◌, ◌||◌, ◌<◌, ◌≤◌, ◌+◌, ◌==◌, ℕ, zero, suc, true, false, Bool, not, refl, sym, ap, subst, arith, List, [], ◌∷◌, Option, Some, None, map, length, take, drop, slice_get, nat_lt, true≢false, append_assoc, if◌then◌else◌, Contains}
+use Rattle.std.proofs.Common.{◌≡◌, ◌∙◌, ◌⊎◌, inl, inr, ◌++◌, ◌&&◌, ◌||◌, ◌≤◌, ◌==◌, ℕ, zero, suc, true, false, Bool, not, refl, sym, ap, subst, arith, List, [], ◌∷◌, Option, Some, None, map, length, take, drop, slice_get, true≢false, append_assoc, if◌then◌else◌, Contains}
 use Rattle.std.proofs.lemmas.Bool.Decides.{nat_tests}
 use Rattle.std.specs.List.{AllByRecursion}
 use Rattle.std.specs.Str.{bytes_eq}
@@ -15,13 +15,13 @@ use Rattle.am_fortran.specs.declared.statement.FortranType.{FortranType}
 use Rattle.am_fortran.specs.declared.statement.FortranType.TheVariants as fortran
 use Rattle.am_fortran.specs.declared.statement.Decl.{Decl}
 use Rattle.am_fortran.specs.declared.unit.Unit.{Unit as Subroutine}
-use Rattle.am_exec.specs.Types.{is_text_of_any_length, same_type, dummy_type, local_type, type_by, type_of_name}
-use Rattle.am_exec.specs.Lawful.{dummies_of, typed, typed_dummy, further, HasTypeOf, IsFunction, IsLocal}
+use Rattle.am_exec.specs.Types.{is_text_of_any_length, same_type, dummy_type, local_type, type_by}
+use Rattle.am_exec.specs.Lawful.{dummies_of, typed, typed_dummy, IsFunction, IsLocal}
 use Rattle.am_exec.specs.ItemFaults.{same_names, is_bad_head, have_one_type, declared_names, is_local, function_type, has_function_type, is_function, declares, is_bad_declaration, lacks_dummy}
 use Rattle.am_exec.specs.Terms.{bad_declaration}
 use Rattle.am_exec.proofs.Names.{is_among-append}
 use Rattle.am_exec.proofs.Held.{eq_is, eq_same, or_false-left, or_false-right, or_both}
-use Rattle.am_exec.proofs.Listed.{contains-here, contains-later, among-contained}
+use Rattle.am_exec.proofs.Listed.{contains-here, contains-later}
 
 same_number : (m n : ℕ) → (m == n) ≡ true → m ≡ n
 same_number m n e = grind (arith, nat_tests)
@@ -105,9 +105,10 @@ module _ (t : Theory) (d : Diagram) (u : Subroutine) where
   follow-further : (earlier es : List Decl) → length (dummies_of d) ≤ length earlier → bad_declaration t d u earlier es ≡ None → AllByRecursion (λ (e : Decl). declares t u None e ≡ true) es
   follow-further earlier [] l h = tt
   follow-further earlier (e ∷ es) l h =
-      let g = good earlier e es h in
-      (subst (λ (o : Option (List ℕ × SortId)). declares t u o e ≡ true) (get-past (dummies_of d) (length earlier) l) g.declaring,
-        follow-further (earlier ++ e ∷ []) es (subst (λ (k : ℕ). length (dummies_of d) ≤ k) (sym (length-push earlier e)) (omega arith)) g.behind)
+      let g = good earlier e es h in (
+        subst (λ (o : Option (List ℕ × SortId)). declares t u o e ≡ true) (get-past (dummies_of d) (length earlier) l) g.declaring,
+        follow-further (earlier ++ e ∷ []) es (subst (λ (k : ℕ). length (dummies_of d) ≤ k) (sym (length-push earlier e)) (omega arith)) g.behind,
+      )
 
   follow : (pre rem : List (List ℕ × SortId)) (earlier es : List Decl) → dummies_of d ≡ pre ++ rem → length pre ≡ length earlier → bad_declaration t d u earlier es ≡ None → FollowDummies t u rem es
   follow pre [] earlier es is l h = follow-further earlier es (all_before pre is l) h
@@ -120,9 +121,10 @@ module _ (t : Theory) (d : Diagram) (u : Subroutine) where
       all_before pre is l = let e : length (dummies_of d) ≡ length pre = ap length is ∙ nothing_behind pre in omega (arith, e, l)
   follow pre (r ∷ rs) earlier [] is l h = tt
   follow pre (r ∷ rs) earlier (e ∷ es) is l h =
-      let g = good earlier e es h in
-      (subst (λ (o : Option (List ℕ × SortId)). declares t u o e ≡ true) (ap (λ (xs : List (List ℕ × SortId)). slice_get xs (length earlier)) is ∙ ap (slice_get (pre ++ r ∷ rs)) (sym l) ∙ get-seam pre r rs) g.declaring,
-        follow (pre ++ r ∷ []) rs (earlier ++ e ∷ []) es (is ∙ sym (append_assoc pre (r ∷ []) rs)) (longer pre r ∙ ap suc l ∙ sym (length-push earlier e)) g.behind)
+      let g = good earlier e es h in (
+        subst (λ (o : Option (List ℕ × SortId)). declares t u o e ≡ true) (ap (λ (xs : List (List ℕ × SortId)). slice_get xs (length earlier)) is ∙ ap (slice_get (pre ++ r ∷ rs)) (sym l) ∙ get-seam pre r rs) g.declaring,
+        follow (pre ++ r ∷ []) rs (earlier ++ e ∷ []) es (is ∙ sym (append_assoc pre (r ∷ []) rs)) (longer pre r ∙ ap suc l ∙ sym (length-push earlier e)) g.behind,
+      )
 
   pub dummies-followed : bad_declaration t d u [] u.declarations ≡ None → FollowDummies t u (dummies_of d) u.declarations
   dummies-followed h = follow [] (dummies_of d) [] u.declarations refl refl h

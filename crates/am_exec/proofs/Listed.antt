@@ -1,9 +1,9 @@
 -- What is found in a list, and names that differ.
-use Rattle.std.proofs.Common.{◌≡◌, ◌∙◌, ◌++◌, ◌&&◌, ◌||◌, ◌<◌, ℕ, zero, suc, true, false, Bool, not, refl, sym, ap, subst, arith, List, [], ◌∷◌, Option, Some, None, map, length, drop, cond, find, slice_get, slice_index_or, true≢false, Contains}
+use Rattle.std.proofs.Common.{◌≡◌, ◌∙◌, ◌++◌, ◌||◌, ◌<◌, ℕ, zero, suc, true, false, Bool, not, refl, sym, ap, subst, arith, List, [], ◌∷◌, Some, map, length, drop, cond, find, slice_index_or, true≢false, Contains}
 use Rattle.std.specs.List.{list_any, AllByRecursion}
 use Rattle.std.specs.Str.{bytes_eq}
 use Rattle.am_term.specs.NameLists.{is_among, are_distinct}
-use Rattle.am_term.proofs.Tests.{and_left, and_right, and_both, true_not, not_false, never_both, fails}
+use Rattle.am_term.proofs.Tests.{and_left, and_right, and_both, true_not, not_false}
 use Rattle.am_exec.proofs.Names.{is_among-append}
 use Rattle.am_exec.proofs.Held.{eq_is, eq_same, or_false-left, or_false-right, or_both}
 

@@ -1,5 +1,5 @@
 -- What holds where a unit's run by terms has no fault.
-use Rattle.std.proofs.Common.{◌≡◌, ◌∙◌, ◌+◌, ◌||◌, ℕ, true, false, Bool, not, refl, sym, ap, List, [], ◌∷◌, Option, Some, None, Result, Ok, Err, length, if◌then◌else◌}
+use Rattle.std.proofs.Common.{◌≡◌, ◌+◌, ◌||◌, ℕ, true, false, Bool, not, refl, ap, List, [], ◌∷◌, Option, Some, None, Result, Ok, Err, length, if◌then◌else◌}
 use Rattle.std.specs.List.{list_any}
 use Rattle.am_term.specs.declared.id.SortId.{SortId}
 use Rattle.am_term.specs.declared.term.Term.{Term}
@@ -11,14 +11,14 @@ use Rattle.am_diagram.specs.Canonical.{names_of, sorts_in}
 use Rattle.am_fortran.specs.declared.statement.Statement.{Statement}
 use Rattle.am_fortran.specs.declared.unit.Unit.{Unit as Subroutine}
 use Rattle.am_exec.specs.declared.fault.ExecKind.{ExecKind}
-use Rattle.am_exec.specs.declared.fault.ExecKind.TheVariants.{UnknownRoutine, WrongCount, NotSet, WrongSort, SetTwice, BadDeclaration, TooLarge}
+use Rattle.am_exec.specs.declared.fault.ExecKind.TheVariants.{UnknownRoutine, WrongCount, WrongSort, SetTwice, BadDeclaration, TooLarge}
 use Rattle.am_exec.specs.declared.fault.ExecFault.{ExecFault}
 use Rattle.am_exec.specs.Lawful.{targets}
 use Rattle.am_exec.specs.States.{Store, is_held, inputs_held}
 use Rattle.am_exec.specs.Effects.{reads, target_names, put_sorts, put}
 use Rattle.am_exec.specs.ItemFaults.{are_targets, applies_undeclared, is_unknown, has_wrong_count, first_unset, has_wrong_sort, sets_twice, is_bad_head, lacks_dummy, is_badly_declared, is_too_large, not_set_or, statement_kind}
 use Rattle.am_exec.proofs.Held.{or_false-left, or_false-right}
-use Rattle.am_exec.specs.Terms.{◌>>=◌, fault_at, bad_declaration, terms_held, outputs_at, ended, unless, step, stated, declared, terms}
+use Rattle.am_exec.specs.Terms.{◌>>=◌, fault_at, bad_declaration, terms_held, outputs_at, ended, unless, stated, declared, terms}
 
 -- a test that isn't met, and what follows it
 record Later (b : Bool) (o : Option ExecKind) : Type 0 where

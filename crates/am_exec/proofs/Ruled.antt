@@ -1,16 +1,15 @@
 -- A unit whose run by terms has no fault keeps the unit rules.
-use Rattle.std.proofs.Common.{◌≡◌, ◌∙◌, ◌⊎◌, inl, inr, ◌++◌, ◌&&◌, ◌||◌, ◌<◌, ◌≤◌, ◌+◌, ◌==◌, ℕ, zero, suc, true, false, Bool, not, refl, sym, ap, subst, arith, List, [], ◌∷◌, Option, Some, None, map, length, take, drop, cond, find, is_some, is_none, option_map, slice_get, true≢false, IsTrue, Contains}
+use Rattle.std.proofs.Common.{◌≡◌, ◌∙◌, ◌⊎◌, inl, inr, ◌&&◌, ◌+◌, ◌==◌, ℕ, true, false, Bool, not, refl, sym, ap, subst, arith, List, [], ◌∷◌, Option, Some, None, map, length, take, drop, cond, is_some, is_none, true≢false, IsTrue, Contains}
 use Rattle.std.proofs.lemmas.Bool.Decides.{nat_tests}
-use Rattle.std.specs.List.{list_any, flat_map, AllByRecursion}
+use Rattle.std.specs.List.{AllByRecursion}
 use Rattle.std.specs.Str.{bytes_eq}
 use Rattle.am_term.specs.declared.id.SortId.{SortId}
 use Rattle.am_term.specs.declared.id.SymId.{SymId}
 use Rattle.am_term.specs.declared.term.Term.{Term}
-use Rattle.am_term.specs.declared.term.Term.TheVariants.{In, App}
-use Rattle.am_term.specs.NameLists.{is_among, are_distinct}
+use Rattle.am_term.specs.NameLists.{is_among}
 use Rattle.am_term.specs.Sorts.{fits}
-use Rattle.am_term.specs.Sorting.{fits_place, sort_of, sorts_of, sort_of-In}
-use Rattle.am_term.proofs.Tests.{and_left, and_right, or_cases, false_not, never_both}
+use Rattle.am_term.specs.Sorting.{fits_place, sort_of, sorts_of}
+use Rattle.am_term.proofs.Tests.{and_left, and_right, or_cases, false_not}
 use Rattle.am_theory.specs.declared.theory.Rep.{Rep}
 use Rattle.am_theory.specs.declared.theory.Rep.TheVariants as rep
 use Rattle.am_theory.specs.declared.theory.Routine.{Routine}
@@ -20,7 +19,6 @@ use Rattle.am_theory.specs.Lookups.{rep_of, copy_of, result_of, result_sort, arg
 use Rattle.am_theory.specs.Facts.{WellFormed, is_array, is_in_range, copies_when_array, is_represented}
 use Rattle.am_diagram.specs.declared.diagram.Diagram.{Diagram}
 use Rattle.am_diagram.specs.Canonical.{names_of, sorts_in}
-use Rattle.am_fortran.specs.declared.statement.FortranType.{FortranType}
 use Rattle.am_fortran.specs.declared.statement.Decl.{Decl}
 use Rattle.am_fortran.specs.declared.statement.Operand.{Operand}
 use Rattle.am_fortran.specs.declared.statement.Operand.TheVariants as operand
@@ -29,18 +27,16 @@ use Rattle.am_fortran.specs.declared.statement.Statement.TheVariants.{Call, Assi
 use Rattle.am_fortran.specs.declared.unit.Unit.{Unit as Subroutine}
 use Rattle.am_exec.specs.Literals.{literal_at}
 use Rattle.am_exec.specs.Run.{name_in, output_sort}
-use Rattle.am_exec.specs.Types.{is_scalar, dummy_type, local_type, type_by, type_of_name}
-use Rattle.am_exec.specs.Lawful.{dummies_of, typed, typed_dummy, further, listed_target, call_targets, targets, HasTypeOf, IsLocal, IsFunction, IsOperandAt, AreOperandsAt, IsTarget, IsNamedTarget, AreTargets, IsRoutineCall, IsCopyCall, IsCallOf, IsNameAssign, IsLiteralAssign, IsAssign, IsApply, IsLawfulStatement, Lawful}
-use Rattle.am_exec.specs.States.{Store, term_held, is_held, inputs_from, inputs_held, entries, literal_term}
+use Rattle.am_exec.specs.Types.{is_scalar, type_of_name}
+use Rattle.am_exec.specs.Lawful.{further, HasTypeOf, IsLocal, IsFunction, IsOperandAt, AreOperandsAt, IsTarget, IsNamedTarget, AreTargets, IsCopyCall, IsCallOf, IsLiteralAssign, IsAssign, IsApply, IsLawfulStatement}
+use Rattle.am_exec.specs.States.{Store, term_held, entries}
 use Rattle.am_exec.specs.Effects.{read_by_call, set_by_call, held_in, copied_term, literal_for, put_terms, put, term_sort, literal_sort, assigned_sort, call_sorts, applied_sort, put_sorts, target_names}
-use Rattle.am_exec.specs.ItemFaults.{call_count, function_count, fits_operand, fit_operands, fits_call, fits_assign, fits_function, is_name_of, is_copied_by, is_scalar_rep, is_scalar_sort, have_one_type, declared_names, declared_type, may_be_set, is_target, are_targets, lacks_dummy, applies_undeclared, is_badly_declared}
-use Rattle.am_exec.proofs.Names.{is_among-append}
-use Rattle.am_exec.proofs.Held.{eq_is, eq_same, or_else, or_false-left, or_false-right, or_both, held-append}
-use Rattle.am_exec.proofs.Listed.{all-at, find-there, among-names, among-contained, contains-behind, distinct-append, none-passes}
-use Rattle.am_exec.proofs.Declared.{head-named, head-dummies, dummies-counted, dummies-followed, dummies-typed, dummy-declared, behind-dummies, declared-once, enough-declared}
-use Rattle.am_exec.proofs.Passing.{Passes, free_targets, distinct_targets, right_targets, applied_declared, AllPass, none_lacks, UnitPasses}
+use Rattle.am_exec.specs.ItemFaults.{call_count, fits_operand, fit_operands, fits_call, fits_assign, fits_function, is_name_of, is_copied_by, is_scalar_rep, is_scalar_sort, have_one_type, declared_names, declared_type, may_be_set, is_target, are_targets}
+use Rattle.am_exec.proofs.Held.{eq_is, or_else, held-append}
+use Rattle.am_exec.proofs.Listed.{all-at, among-names}
+use Rattle.am_exec.proofs.Passing.{Passes, right_targets, applied_declared, AllPass}
 use Rattle.am_exec.proofs.Typing.{has-type-moves, some-is, declared-there, fits-alike, literally, put-sorted}
-use Rattle.am_exec.proofs.Valued.{names-listed, sorted-there, copied-there, scalar-there}
+use Rattle.am_exec.proofs.Valued.{sorted-there, copied-there, scalar-there}
 
 scalar-array : (r : Rep) → is_array r ≡ true → is_scalar r ≡ false
 scalar-array rep.Double e = absurd (true≢false (sym e))
@@ -169,7 +165,6 @@ module _ (t : Theory) (d : Diagram) (u : Subroutine) (h : WellFormed t) where
         by_term (Some y) at is = g n x (at ∙ is)
         by_term None at is = entry-typed (target_names t s) (put_sorts t d ins store s) (put_terms t d store s) (right_targets t d u ins store s p) (put-sorted t h ins d u store s p) n x is
 
-
     -- an operand that fits its place is a literal there or a name with the type of the place's sort
     operand-lawful : (store : Store) (g : Typed store) (s : SortId) (o : Operand) → fits_operand t ins store s o ≡ true → IsOperandAt t u s o
     operand-lawful store g s (operand.Name n) e =
@@ -204,8 +199,16 @@ module _ (t : Theory) (d : Diagram) (u : Subroutine) (h : WellFormed t) where
         let copies : copy_of t y.sort ≡ Some n = name-is n (copy_of t y.sort) (sym (ap (is_copied_by t n) sorted) ∙ e) in
         let array = copied-array (rep_of t y.sort) (copy_of t y.sort) n (h.represented y.sort) copies in
         record {
-          from = m; target = k; two = refl; sort = y.sort; copies = copies; rep = array.rep; represented = array.there; array = array.array;
-          typed = y.typed; settable = target-at k (term_sort t ins (term_held store m)) y.sort sorted f;
+          from = m;
+          target = k;
+          two = refl;
+          sort = y.sort;
+          copies = copies;
+          rep = array.rep;
+          represented = array.there;
+          array = array.array;
+          typed = y.typed;
+          settable = target-at k (term_sort t ins (term_held store m)) y.sort sorted f;
         }
 
     copies-lawful : (store : Store) (g : Typed store) (n : List ℕ) (args : List Operand) → length args ≡ 2 → is_copied_by t n (term_sort t ins (copied_term store (take 1 args))) ≡ true → are_targets t d u (map name_in (drop 1 args)) (term_sort t ins (copied_term store args) ∷ []) ≡ true → IsCopyCall t d u n args
@@ -239,7 +242,10 @@ module _ (t : Theory) (d : Diagram) (u : Subroutine) (h : WellFormed t) where
         let given : result_sort t.sig l.0 ≡ Some c.sort = ap result_of c.there ∙ c.given in
         let sorted : literal_sort t (literal_at t s o) ≡ Some c.sort = ap (literal_sort t) l.1 ∙ given in
         record {
-          sort = s; output = is; literal = l.0; stands = l.1;
+          sort = s;
+          output = is;
+          literal = l.0;
+          stands = l.1;
           settable = target-moves target c.sort s (fits-alike t h c.sort s c.fitting) (target-at target (literal_sort t (literal_at t s o)) c.sort sorted f);
         }
 
@@ -259,9 +265,15 @@ module _ (t : Theory) (d : Diagram) (u : Subroutine) (h : WellFormed t) where
     apply-lawful store g target n args (Some k) is e c (Some s) at f =
         let there = among-names (λ (x : Decl). x.name) n (further u) c in
         record {
-          function = k; listed = is; decl = there.0; declared = there.1; named = there.2;
+          function = k;
+          listed = is;
+          decl = there.0;
+          declared = there.1;
+          named = there.2;
           inputs = operands-lawful store g (argument_sorts t.sig k.symbol) args e;
-          sort = s; result = at; settable = target-lawful target s f;
+          sort = s;
+          result = at;
+          settable = target-lawful target s f;
         }
 
     -- a statement that passes keeps the rules

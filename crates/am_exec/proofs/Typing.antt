@@ -1,18 +1,18 @@
 -- The sorts of terms that names hold, and the types of these names.
-use Rattle.std.proofs.Common.{◌≡◌, ◌∙◌, ◌⊎◌, inl, inr, ◌++◌, ◌&&◌, ◌||◌, ◌<◌, ◌≤◌, ◌+◌, ◌==◌, ℕ, zero, suc, true, false, Bool, not, refl, sym, ap, subst, arith, List, [], ◌∷◌, Option, Some, None, map, length, take, drop, cond, find, is_some, option_map, slice_get, true≢false, if◌then◌else◌, Contains}
-use Rattle.std.specs.List.{list_any, flat_map, AllByRecursion}
+use Rattle.std.proofs.Common.{◌≡◌, ◌∙◌, ◌++◌, ◌&&◌, ℕ, true, Bool, refl, sym, ap, subst, List, [], ◌∷◌, Option, Some, None, map, length, take, find, is_some, option_map, slice_get, true≢false, if◌then◌else◌, Contains}
+use Rattle.std.specs.List.{AllByRecursion}
 use Rattle.std.specs.Str.{bytes_eq}
 use Rattle.am_term.specs.declared.id.SortId.{SortId}
 use Rattle.am_term.specs.declared.id.SymId.{SymId}
 use Rattle.am_term.specs.declared.kind.SymKind.TheVariants as kind
 use Rattle.am_term.specs.declared.symbol.Symbol.{Symbol}
 use Rattle.am_term.specs.declared.term.Term.{Term}
-use Rattle.am_term.specs.declared.term.Term.TheVariants.{In, App}
+use Rattle.am_term.specs.declared.term.Term.TheVariants.{App}
 use Rattle.am_term.specs.NameLists.{is_among}
 use Rattle.am_term.specs.Sorts.{fits}
-use Rattle.am_term.specs.Sorting.{fits_place, fit_places, result_at, sort_of, sorts_of, sort_of-In, sort_of-App}
+use Rattle.am_term.specs.Sorting.{fits_place, fit_places, result_at, sort_of, sorts_of, sort_of-App}
 use Rattle.am_term.proofs.Forest.{fits-akin}
-use Rattle.am_term.proofs.Tests.{and_left, and_right, and_both, or_cases, false_not, never_both}
+use Rattle.am_term.proofs.Tests.{and_left, and_right, and_both, false_not}
 use Rattle.am_theory.specs.declared.theory.Rep.{Rep}
 use Rattle.am_theory.specs.declared.theory.Routine.{Routine}
 use Rattle.am_theory.specs.declared.theory.FortranFunction.{FortranFunction}
@@ -21,7 +21,6 @@ use Rattle.am_theory.specs.declared.theory.Theory.{Theory}
 use Rattle.am_theory.specs.Lookups.{rep_of, result_of, args_of, result_sort, argument_sorts, routine_named, function_named}
 use Rattle.am_theory.specs.Facts.{WellFormed, Stands, IsRoutine, IsLiteral}
 use Rattle.am_diagram.specs.declared.diagram.Diagram.{Diagram}
-use Rattle.am_diagram.specs.Canonical.{names_of, sorts_in}
 use Rattle.am_fortran.specs.declared.statement.FortranType.{FortranType}
 use Rattle.am_fortran.specs.declared.statement.Decl.{Decl}
 use Rattle.am_fortran.specs.declared.statement.Operand.{Operand}
@@ -30,16 +29,15 @@ use Rattle.am_fortran.specs.declared.statement.Statement.{Statement}
 use Rattle.am_fortran.specs.declared.statement.Statement.TheVariants.{Call, Assign, Apply}
 use Rattle.am_fortran.specs.declared.unit.Unit.{Unit as Subroutine}
 use Rattle.am_exec.specs.Literals.{writes, sort_fits, literal_at}
-use Rattle.am_exec.specs.Run.{name_in, output_sort}
+use Rattle.am_exec.specs.Run.{output_sort}
 use Rattle.am_exec.specs.Types.{dummy_type, local_type, type_by, type_of_name}
-use Rattle.am_exec.specs.Lawful.{dummies_of, further, listed_target, HasTypeOf, IsLocal, IsFunction, IsTarget}
-use Rattle.am_exec.specs.States.{Store, term_held, inputs_from, inputs_held, entries, literal_term, operand_term, listed_term, operand_terms}
-use Rattle.am_exec.specs.Effects.{read_by_call, held_in, copied_term, literal_for, literal_term_of, assigned_term, call_terms, applied_terms, put_terms, put, term_sort, literal_sort, assigned_sort, call_sorts, applied_sort, put_sorts, target_names}
-use Rattle.am_exec.specs.ItemFaults.{fits_operand, fit_operands, fits_call, fits_assign, fits_function, is_copied_by, is_scalar_sort, have_one_type, declared_names, declared_type, may_be_set, is_target, are_targets, is_bad_head, lacks_dummy, applies_undeclared, is_badly_declared}
-use Rattle.am_exec.specs.Terms.{bad_declaration}
-use Rattle.am_exec.proofs.Held.{eq_is, or_else, or_false-left, or_false-right, held-append}
-use Rattle.am_exec.proofs.Listed.{all-at, find-there, among-names, among-contained, contains-behind}
-use Rattle.am_exec.proofs.Declared.{one_type-is, FollowDummies, head-dummies, dummies-counted, dummies-followed, dummy-declared, behind-dummies, enough-declared}
+use Rattle.am_exec.specs.Lawful.{HasTypeOf}
+use Rattle.am_exec.specs.States.{Store, term_held, literal_term, operand_term, listed_term, operand_terms}
+use Rattle.am_exec.specs.Effects.{read_by_call, copied_term, literal_for, literal_term_of, assigned_term, call_terms, applied_terms, put_terms, term_sort, literal_sort, assigned_sort, call_sorts, applied_sort, put_sorts}
+use Rattle.am_exec.specs.ItemFaults.{fits_operand, fit_operands, fits_call, fits_assign, fits_function, have_one_type, declared_type}
+use Rattle.am_exec.proofs.Held.{eq_is}
+use Rattle.am_exec.proofs.Listed.{all-at, find-there}
+use Rattle.am_exec.proofs.Declared.{one_type-is}
 use Rattle.am_exec.proofs.Passing.{Passes}
 use Rattle.am_exec.proofs.Valued.{operand-there, assigned-there, copied-there}
 
@@ -89,7 +87,11 @@ module _ (t : Theory) (h : WellFormed t) where
           let there = find-there (λ (x : LiteralDecl). writes o x.value && sort_fits t (result_sort t.sig x.symbol) place) t.literals l is in
           let stands = (all-at (IsLiteral t) t.literals l h.literals there.0).stands in
           record {
-            symbol = stands.symbol; there = stands.there; none = stands.with_args; sort = stands.sort; given = stands.result;
+            symbol = stands.symbol;
+            there = stands.there;
+            none = stands.with_args;
+            sort = stands.sort;
+            given = stands.result;
             fitting = sort-fits (result_sort t.sig l.symbol) stands.sort place (ap result_of stands.there ∙ stands.result) (and_right (writes o l.value) (sort_fits t (result_sort t.sig l.symbol) place) there.1);
           }
 
@@ -146,8 +148,8 @@ module _ (t : Theory) (h : WellFormed t) where
         let y = g.0 in
         ap (λ (s : Option SortId). s ∷ sorts_of t.sig ins (map (λ (k : SymId). App k xs) fs))
         (sort_of-App t.sig ins f xs ∙ ap (λ (o : Option Symbol). result_at t.sig o (sorts_of t.sig ins xs)) y.there
-            ∙ at_places y.symbol (sorts_of t.sig ins xs) (ap (fit_places t.sig (sorts_of t.sig ins xs)) y.with_args ∙ e)
-            ∙ sym (ap result_of y.there))
+        ∙ at_places y.symbol (sorts_of t.sig ins xs) (ap (fit_places t.sig (sorts_of t.sig ins xs)) y.with_args ∙ e)
+        ∙ sym (ap result_of y.there))
         ∙ ap (λ r. result_sort t.sig f ∷ r) (outputs-sorted ss xs fs g.1 e)
 
     function-sorted : (f : SymId) (xs : List Term) → fit_places t.sig (sorts_of t.sig ins xs) (argument_sorts t.sig f) ≡ true → sort_of t.sig ins (App f xs) ≡ result_sort t.sig f

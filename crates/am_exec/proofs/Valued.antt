@@ -1,16 +1,14 @@
 -- The run by numbers beside the run by terms: each name holds the value of the term that it holds.
-use Rattle.std.proofs.Common.{◌≡◌, ◌∙◌, ◌++◌, ◌+◌, ◌==◌, ◌<◌, ◌&&◌, ◌||◌, ℕ, zero, suc, true, false, Bool, not, refl, sym, ap, subst, arith, List, [], ◌∷◌, Option, Some, None, map, length, take, drop, cond, is_some, option_map, option_and_then, slice_index, true≢false, append_assoc}
+use Rattle.std.proofs.Common.{◌≡◌, ◌∙◌, ◌++◌, ◌+◌, ◌==◌, ℕ, suc, true, false, Bool, refl, sym, ap, subst, arith, List, [], ◌∷◌, Option, Some, None, map, length, take, drop, cond, is_some, option_map, option_and_then, slice_index, true≢false}
 use Rattle.std.specs.List.{list_any, flat_map}
 use Rattle.std.specs.Str.{bytes_eq}
 use Rattle.std.proofs.lemmas.Bool.Decides.{nat_tests}
 use Rattle.am_term.specs.declared.id.SortId.{SortId}
 use Rattle.am_term.specs.declared.id.SymId.{SymId}
-use Rattle.am_term.specs.declared.signature.Signature.{Signature}
 use Rattle.am_term.specs.declared.term.Term.{Term}
 use Rattle.am_term.specs.declared.term.Term.TheVariants.{In, App}
-use Rattle.am_term.specs.NameLists.{are_distinct}
 use Rattle.am_term.specs.Sorting.{fits_place}
-use Rattle.am_term.proofs.Tests.{and_left, and_right, true_not, false_not}
+use Rattle.am_term.proofs.Tests.{and_left, and_right, false_not}
 use Rattle.am_world.specs.Interpretation.{Interpretation, Members}
 use Rattle.am_world.specs.Value.{Assignment, value, values, value-In, value-App}
 use Rattle.am_theory.specs.declared.theory.Routine.{Routine}
@@ -25,13 +23,13 @@ use Rattle.am_fortran.specs.declared.statement.Statement.{Statement}
 use Rattle.am_fortran.specs.declared.statement.Statement.TheVariants.{Call, Assign, Apply}
 use Rattle.am_fortran.specs.declared.unit.Unit.{Unit as Subroutine}
 use Rattle.am_exec.specs.Literals.{literal_at}
-use Rattle.am_exec.specs.Run.{State, held, started, constant, operand_value, with_value, operand_values, name_in, stored, outputs_stored, copied, held_by, copy_called, is_copy, routine_called, applied, output_sort, assigned_value, executed, executed_all, run}
+use Rattle.am_exec.specs.Run.{State, held, started, constant, operand_value, with_value, operand_values, name_in, stored, outputs_stored, copied, held_by, is_copy, routine_called, applied, output_sort, assigned_value, executed, executed_all}
 use Rattle.am_exec.specs.Lawful.{listed_target, call_targets, targets}
 use Rattle.am_exec.specs.States.{Store, term_held, is_held, inputs_from, inputs_held, entries, literal_term, operand_term, listed_term, operand_terms}
-use Rattle.am_exec.specs.Effects.{read_by_call, set_by_call, target_names, held_in, copied_term, literal_for, literal_term_of, assigned_term, call_terms, applied_terms, put_terms, put, term_sort, assigned_sort, call_sorts, applied_sort, put_sorts}
-use Rattle.am_exec.specs.ItemFaults.{is_unknown_call, call_count, is_copied_by, is_scalar_sort, lacks_dummy, applies_undeclared, fits_operand, fit_operands, fits_call, fits_assign, fits_function, is_target, are_targets}
+use Rattle.am_exec.specs.Effects.{read_by_call, set_by_call, held_in, copied_term, literal_for, literal_term_of, assigned_term, call_terms, applied_terms, put, term_sort, call_sorts}
+use Rattle.am_exec.specs.ItemFaults.{is_unknown_call, call_count, is_copied_by, is_scalar_sort, fits_operand, fit_operands, fits_call, fits_assign, fits_function, is_target, are_targets}
 use Rattle.am_exec.specs.Terms.{terms_held, with_term}
-use Rattle.am_exec.proofs.Held.{or_else, or_false-left, or_false-right, or_both, held-append, fresh}
+use Rattle.am_exec.proofs.Held.{or_else, or_false-left, or_both, held-append, fresh}
 use Rattle.am_exec.proofs.Passing.{Passes, free_targets, right_targets, AllPass, UnitPasses}
 
 -- numbers under names in turn, as terms are put

@@ -2,6 +2,7 @@ pub mod Effects
 pub mod Given
 pub mod ItemFaults
 pub mod Lawful
+pub mod Laws
 pub mod Literals
 pub mod Right
 pub mod Run

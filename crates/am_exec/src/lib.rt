@@ -10,6 +10,7 @@ mod declarations;
 mod effects;
 mod fault;
 mod faults;
+mod laws;
 mod lookups;
 mod running;
 mod scene;
@@ -17,4 +18,5 @@ mod store;
 mod types;
 
 pub use fault::{ExecFault, ExecKind};
+pub use laws::{law_of_right, law_of_rules, law_of_runs};
 pub use running::symbolic;
