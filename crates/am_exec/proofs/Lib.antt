@@ -6,8 +6,8 @@ pub mod Keeping
 pub mod Listed
 pub mod Names
 pub mod Passing
+pub mod Putting
 pub mod Ruled
 pub mod Stores
-pub mod Targets
 pub mod Typing
 pub mod Valued

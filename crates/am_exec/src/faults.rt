@@ -1,25 +1,19 @@
-ghost use Rattle.std.specs.Prelude.{◌≡◌, ◌||◌, ◌∷◌, [], Some, map, take, drop, not, option_copied};
-ghost use Rattle.std.specs.List.{list_any};
-ghost use Rattle.am_term.specs.declared.id.SymId.{SymId};
-ghost use Rattle.am_term.specs.declared.term.Term.TheVariants.{App};
-ghost use Rattle.am_term.specs.NameLists.{is_among, are_distinct};
+ghost use Rattle.std.specs.Prelude.{◌≡◌, take, drop, option_copied};
 ghost use Rattle.am_term.specs.Sorting.{sort_of};
-ghost use Rattle.am_theory.specs.Lookups.{result_sort as sort_given, function_named as function_with};
-ghost use Rattle.am_exec.specs.Run.{name_in as named_by, output_sort};
-ghost use Rattle.am_exec.specs.States.{term_held as held_under, is_held as is_name_held, operand_terms as operands_stand};
-ghost use Rattle.am_exec.specs.Effects.{reads, copied_term as term_copied, literal_for as literal_asked, literal_sort as sort_of_literal, applied_sort as sort_applied, term_sort, assigned_sort as sort_assigned};
-ghost use Rattle.am_exec.specs.ItemFaults.{names_set, is_large as is_term_large, is_unknown as is_called_unknown, has_wrong_count as is_count_wrong, first_unset as unset_first, unset_name as name_unset, fits_operand as is_operand_fitting, fit_operands as are_operands_fitting, fits_assign as is_assign_fitting, is_copied_by as is_sort_copied, is_scalar_sort as is_sort_scalar, has_wrong_sort as is_sort_wrong, sets_twice as is_set_twice, is_target as is_lawful_target, are_targets, is_badly_declared as is_declared_badly, is_too_large as is_large_put};
+ghost use Rattle.am_exec.specs.Run.{output_sort};
+ghost use Rattle.am_exec.specs.States.{term_held as held_under, is_held as is_name_held};
+ghost use Rattle.am_exec.specs.Effects.{reads, copied_term as term_copied, literal_for as literal_asked, term_sort};
+ghost use Rattle.am_exec.specs.ItemFaults.{is_unknown as is_called_unknown, has_wrong_count as is_count_wrong, first_unset as unset_first, unset_name as name_unset, fits_operand as is_operand_fitting, fit_operands as are_operands_fitting, fits_assign as is_assign_fitting, is_copied_by as is_sort_copied, is_scalar_sort as is_sort_scalar, has_wrong_sort as is_sort_wrong};
 
-use crate::declarations::{declared_type, further, lacks_dummy, may_be_set};
 use crate::lookups::{
-    argument_sorts, copy_of, function_named, is_copy, is_declared, literal_at, rep_of, result_sort,
-    routine_named, sort_listed,
+    argument_sorts, copy_of, function_named, is_copy, literal_at, rep_of, routine_named,
+    sort_listed,
 };
 use crate::scene::Scene;
-use crate::store::{MOST_NODES, name_in, operands_nodes, term_held};
-use crate::types::{have_one_type, is_scalar, type_of_name};
+use crate::store::{name_in, term_held};
+use crate::types::is_scalar;
 use am_fortran::{Operand, Statement};
-use am_term::{Ctx, Name, SortId, SymId, Term, fits, weight, well_sorted};
+use am_term::{Ctx, Name, SortId, SymId, Term, fits, well_sorted};
 use am_theory::Theory;
 
 /// Whether the name called or applied is none of the theory's for that kind of statement. Takes no
@@ -104,7 +98,8 @@ fn unset_name<'a>(store: &[(Name, Term)], operand: &'a Operand) -> Option<&'a Na
     }
 }
 
-fn is_held(store: &[(Name, Term)], name: &Name) -> bool
+/// Whether the name holds a term.
+pub fn is_held(store: &[(Name, Term)], name: &Name) -> bool
     ensures { result ≡ is_name_held store.now name.now }
 {
     term_held(store, name).is_some()
@@ -197,8 +192,8 @@ fn fits_operand(scene: &Scene, store: &[(Name, Term)], place: SortId, operand: &
     }
 }
 
-// The sort of the term that a name holds, if it holds one.
-fn held_sort(scene: &Scene, store: &[(Name, Term)], name: &Name) -> Option<SortId>
+/// The sort of the term that a name holds, if it holds one.
+pub fn held_sort(scene: &Scene, store: &[(Name, Term)], name: &Name) -> Option<SortId>
     ensures { result ≡ term_sort scene.now.theory.now scene.now.ins.now (held_under store.now name.now) }
 {
     match term_held(store, name) {
@@ -230,7 +225,8 @@ pub fn copied_term<'a>(store: &'a [(Name, Term)], args: &[Operand]) -> Option<&'
     }
 }
 
-fn copied_sort(scene: &Scene, store: &[(Name, Term)], args: &[Operand]) -> Option<SortId>
+/// The sort of the term that the first argument of a copy holds.
+pub fn copied_sort(scene: &Scene, store: &[(Name, Term)], args: &[Operand]) -> Option<SortId>
     ensures { result ≡ term_sort scene.now.theory.now scene.now.ins.now (term_copied store.now args.now) }
 {
     match copied_term(store, args) {
@@ -282,223 +278,4 @@ pub fn literal_for(scene: &Scene, target: &Name, from: &Operand) -> Option<SymId
         Some(place) => literal_at(scene.theory, place, from),
         None => None,
     }
-}
-
-/// Whether a target holds a term already or stands twice.
-#[tactic(auto, using(crate::proofs::Targets::setting))]
-pub fn sets_twice(theory: &Theory, store: &[(Name, Term)], statement: &Statement) -> bool
-    ensures { result ≡ is_set_twice theory.now store.now statement.now }
-{
-    match statement {
-        Statement::Call { routine, args } => match routine_named(theory, routine) {
-            Some(routine) => set_twice(store, behind(args.as_slice(), routine.inputs.len())),
-            None => set_twice(store, behind(args.as_slice(), 1)),
-        },
-        Statement::Assign { target, .. } => is_held(store, target),
-        Statement::Apply { target, .. } => is_held(store, target),
-    }
-}
-
-#[tactic(auto, using(crate::proofs::Targets::setting))]
-fn set_twice(store: &[(Name, Term)], targets: &[Operand]) -> bool
-    ensures { result ≡ (list_any (is_name_held store.now) (names_set targets.now) || not (are_distinct (names_set targets.now))) }
-{
-    let mut rest = targets;
-    while let [target, behind @ ..] = rest {
-        if let Some(name) = name_in(target) {
-            if is_held(store, name) || is_target_of(name, behind) {
-                return true;
-            }
-        }
-        rest = behind;
-    }
-    false
-}
-
-fn is_target_of(name: &Name, targets: &[Operand]) -> bool
-    ensures { result ≡ is_among name.now (names_set targets.now) }
-{
-    let mut rest = targets;
-    while let [target, behind @ ..] = rest {
-        if let Some(other) = name_in(target) {
-            if name.as_str() == other.as_str() {
-                return true;
-            }
-        }
-        rest = behind;
-    }
-    false
-}
-
-/// Whether a dummy has no declaration, a function applied isn't declared, or a target isn't a declared
-/// name that may be set with the type of what is put there.
-pub fn is_badly_declared(scene: &Scene, store: &[(Name, Term)], statement: &Statement) -> bool
-    ensures { result ≡ is_declared_badly scene.now.theory.now scene.now.diagram.now scene.now.unit.now scene.now.ins.now store.now statement.now }
-{
-    if lacks_dummy(scene.unit) {
-        return true;
-    }
-    match statement {
-        Statement::Call { routine, args } => match routine_named(scene.theory, routine) {
-            Some(routine) => {
-                let targets = behind(args.as_slice(), routine.inputs.len());
-                !are_outputs(scene, targets, routine.outputs.as_slice())
-            }
-            None => {
-                let sort = copied_sort(scene, store, args.as_slice());
-                !is_copy_target(scene, behind(args.as_slice(), 1), sort)
-            }
-        },
-        Statement::Assign { target, from } => {
-            !is_target(scene, target, assigned_sort(scene, store, target, from))
-        }
-        Statement::Apply {
-            target,
-            function,
-            ..
-        } => {
-            !is_declared(function, further(scene.unit))
-                || !is_target(scene, target, applied_sort(scene.theory, function))
-        }
-    }
-}
-
-fn are_outputs(scene: &Scene, targets: &[Operand], outputs: &[SymId]) -> bool
-    ensures { result ≡ are_targets scene.now.theory.now scene.now.diagram.now scene.now.unit.now (map named_by targets.now) (map (sort_given scene.now.theory.now.sig) outputs.now) }
-{
-    let mut left = targets;
-    let mut rest = outputs;
-    while let [target, further @ ..] = left {
-        match rest {
-            [] => return false,
-            [output, behind @ ..] => {
-                if !is_operand_target(scene, target, result_sort(scene.theory, *output)) {
-                    return false;
-                }
-                left = further;
-                rest = behind;
-            }
-        }
-    }
-    rest.is_empty()
-}
-
-fn is_copy_target(scene: &Scene, targets: &[Operand], sort: Option<SortId>) -> bool
-    ensures { result ≡ are_targets scene.now.theory.now scene.now.diagram.now scene.now.unit.now (map named_by targets.now) (sort ∷ []) }
-{
-    match targets {
-        [target, rest @ ..] => is_operand_target(scene, target, sort) && rest.is_empty(),
-        [] => false,
-    }
-}
-
-fn is_operand_target(scene: &Scene, target: &Operand, sort: Option<SortId>) -> bool
-    ensures { result ≡ is_lawful_target scene.now.theory.now scene.now.diagram.now scene.now.unit.now (named_by target.now) sort }
-{
-    match name_in(target) {
-        Some(name) => is_target(scene, name, sort),
-        None => false,
-    }
-}
-
-fn is_target(scene: &Scene, target: &Name, sort: Option<SortId>) -> bool
-    ensures { result ≡ is_lawful_target scene.now.theory.now scene.now.diagram.now scene.now.unit.now (Some target.now) sort }
-{
-    match sort {
-        Some(sort) => {
-            let wanted = type_of_name(scene.theory, scene.unit, target, sort);
-            may_be_set(scene.theory, scene.diagram, scene.unit, target)
-                && have_one_type(declared_type(scene.unit, target), wanted)
-        }
-        None => false,
-    }
-}
-
-fn assigned_sort(
-    scene: &Scene,
-    store: &[(Name, Term)],
-    target: &Name,
-    from: &Operand,
-) -> Option<SortId>
-    ensures { result ≡ sort_assigned scene.now.theory.now scene.now.ins.now store.now (output_sort scene.now.diagram.now target.now) from.now }
-{
-    match from {
-        Operand::Name(name) => held_sort(scene, store, name),
-        Operand::Int(_) => literal_sort(scene.theory, literal_for(scene, target, from)),
-        Operand::Text(_) => literal_sort(scene.theory, literal_for(scene, target, from)),
-    }
-}
-
-fn literal_sort(theory: &Theory, symbol: Option<SymId>) -> Option<SortId>
-    ensures { result ≡ sort_of_literal theory.now symbol }
-{
-    match symbol {
-        Some(symbol) => result_sort(theory, symbol),
-        None => None,
-    }
-}
-
-fn applied_sort(theory: &Theory, function: &Name) -> Option<SortId>
-    ensures { result ≡ sort_applied theory.now (function_with theory.now function.now) }
-{
-    match function_named(theory, function) {
-        Some(function) => result_sort(theory, function.symbol),
-        None => None,
-    }
-}
-
-/// Whether a term that a target is to hold has more nodes than it may have.
-#[tactic(auto, using(crate::proofs::Targets::measuring))]
-pub fn is_too_large(scene: &Scene, store: &[(Name, Term)], statement: &Statement) -> bool
-    ensures { result ≡ is_large_put scene.now.theory.now scene.now.diagram.now store.now statement.now }
-{
-    match statement {
-        Statement::Call { routine, args } => match routine_named(scene.theory, routine) {
-            Some(routine) => {
-                let places = routine.inputs.as_slice();
-                let inputs = front(args.as_slice(), places.len());
-                let outputs = routine.outputs.as_slice();
-                has_large_output(scene.theory, store, places, inputs, outputs)
-            }
-            None => match copied_term(store, args.as_slice()) {
-                Some(term) => is_large(term),
-                None => false,
-            },
-        },
-        Statement::Assign { from, .. } => match from {
-            Operand::Name(name) => match term_held(store, name) {
-                Some(term) => is_large(term),
-                None => false,
-            },
-            Operand::Int(_) => false,
-            Operand::Text(_) => false,
-        },
-        Statement::Apply { function, args, .. } => match function_named(scene.theory, function) {
-            Some(function) => {
-                let places = argument_sorts(scene.theory, function.symbol);
-                operands_nodes(scene.theory, store, places, args.as_slice()) >= MOST_NODES
-            }
-            None => false,
-        },
-    }
-}
-
-#[tactic(auto, using(crate::proofs::Targets::measuring))]
-fn has_large_output(
-    theory: &Theory,
-    store: &[(Name, Term)],
-    places: &[SortId],
-    inputs: &[Operand],
-    outputs: &[SymId],
-) -> bool
-    ensures { result ≡ list_any is_term_large (map (λ (f : SymId). App f (operands_stand theory.now store.now places.now inputs.now)) outputs.now) }
-{
-    outputs.len() != 0 && operands_nodes(theory, store, places, inputs) >= MOST_NODES
-}
-
-#[tactic(auto, using(crate::proofs::Targets::measuring))]
-fn is_large(term: &Term) -> bool
-    ensures { result ≡ is_term_large term.now }
-{
-    weight(term, MOST_NODES) > MOST_NODES
 }

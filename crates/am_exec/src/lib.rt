@@ -15,6 +15,7 @@ mod lookups;
 mod running;
 mod scene;
 mod store;
+mod targets;
 mod types;
 
 pub use fault::{ExecFault, ExecKind};

@@ -8,12 +8,10 @@ ghost use Rattle.am_exec.specs.Terms.{terms, unless, stated as run_on, ended as 
 use crate::declarations::{bad_declaration, is_bad_head, lacks_dummy};
 use crate::effects::put;
 use crate::fault::{ExecFault, ExecKind};
-use crate::faults::{
-    first_unset, has_wrong_count, has_wrong_sort, is_badly_declared, is_too_large, is_unknown,
-    sets_twice,
-};
+use crate::faults::{first_unset, has_wrong_count, has_wrong_sort, is_unknown};
 use crate::scene::Scene;
 use crate::store::{inputs_held, term_held};
+use crate::targets::{is_badly_declared, is_too_large, sets_twice};
 use am_diagram::Diagram;
 use am_fortran::{Statement, Unit};
 use am_term::{Name, NoMemory, SortId, Term, copy};

@@ -2,7 +2,7 @@ use Rattle.std.proofs.Common.{◌≡◌, length, map}
 use Rattle.am_theory.specs.Lookups.{result_sort}
 use Rattle.am_exec.specs.Run.{name_in}
 use Rattle.am_exec.specs.ItemFaults.{are_targets}
-use Rattle.am_exec.proofs.faults.are_outputs.Given as goal
+use Rattle.am_exec.proofs.targets.are_outputs.Given as goal
 
 -- what is left decides
 abbrev pub invariant-loop-left : goal.invariant-loop-left

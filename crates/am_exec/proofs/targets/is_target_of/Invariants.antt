@@ -1,7 +1,7 @@
 use Rattle.std.proofs.Common.{◌≡◌, length}
 use Rattle.am_term.specs.NameLists.{is_among}
 use Rattle.am_exec.specs.ItemFaults.{names_set}
-use Rattle.am_exec.proofs.faults.is_target_of.Given as goal
+use Rattle.am_exec.proofs.targets.is_target_of.Given as goal
 
 -- what is left decides
 abbrev pub invariant-loop-rest : goal.invariant-loop-rest

@@ -3,7 +3,7 @@ use Rattle.std.specs.List.{list_any}
 use Rattle.am_term.specs.NameLists.{are_distinct}
 use Rattle.am_exec.specs.States.{is_held}
 use Rattle.am_exec.specs.ItemFaults.{names_set}
-use Rattle.am_exec.proofs.faults.set_twice.Given as goal
+use Rattle.am_exec.proofs.targets.set_twice.Given as goal
 
 -- what is left decides
 abbrev pub invariant-loop-rest : goal.invariant-loop-rest
