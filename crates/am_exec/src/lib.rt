@@ -16,6 +16,8 @@ mod running;
 mod scene;
 mod store;
 mod targets;
+#[cfg(test)]
+mod tests;
 mod types;
 
 pub use fault::{ExecFault, ExecKind};
