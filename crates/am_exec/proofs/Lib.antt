@@ -5,7 +5,9 @@ pub mod Held
 pub mod Keeping
 pub mod Listed
 pub mod Names
+pub mod Paired
 pub mod Passing
+pub mod Placed
 pub mod Putting
 pub mod Ruled
 pub mod Stores

@@ -4,6 +4,7 @@ pub mod ItemFaults
 pub mod Lawful
 pub mod Laws
 pub mod Literals
+pub mod Places
 pub mod Right
 pub mod Run
 pub mod States

@@ -14,6 +14,12 @@ use Rattle.am_exec.specs.Literals.{literal_at}
 abbrev pub Store : Type 0
 Store = List (List ℕ × Term)
 
+-- names with their terms
+abbrev pub paired : List (List ℕ) → List Term → Store
+paired [] ts = []
+paired (n ∷ ns) [] = []
+paired (n ∷ ns) (t ∷ ts) = (n, t) ∷ paired ns ts
+
 -- the term that a name holds, if it holds one
 abbrev pub term_held : Store → List ℕ → Option Term
 term_held [] n = None
@@ -32,12 +38,16 @@ inputs_from k (d ∷ ds) = (d.0, In k) ∷ inputs_from (suc k) ds
 abbrev pub inputs_held : List (List ℕ × SortId) → Store
 inputs_held ds = inputs_from 0 ds
 
--- the names hold these terms in turn; a term for which there is no name goes nowhere
+-- a name holds a term; a term for which there is no name goes nowhere
+abbrev pub entry : Option (List ℕ) → Term → Store
+entry None t = []
+entry (Some n) t = (n, t) ∷ []
+
+-- the names hold these terms in turn
 abbrev pub entries : List (Option (List ℕ)) → List Term → Store
 entries [] ts = []
 entries (n ∷ ns) [] = []
-entries (None ∷ ns) (t ∷ ts) = entries ns ts
-entries (Some n ∷ ns) (t ∷ ts) = (n, t) ∷ entries ns ts
+entries (n ∷ ns) (t ∷ ts) = entry n t ++ entries ns ts
 
 -- the term of a literal symbol
 abbrev pub literal_term : SymId → Term

@@ -9,8 +9,9 @@ use crate::lookups::{
     argument_sorts, copy_of, function_named, is_copy, literal_at, rep_of, routine_named,
     sort_listed,
 };
+use crate::operands::name_in;
 use crate::scene::Scene;
-use crate::store::{name_in, term_held};
+use crate::store::Store;
 use crate::types::is_scalar;
 use am_fortran::{Operand, Statement};
 use am_term::{Ctx, Name, SortId, SymId, Term, fits, well_sorted};
@@ -52,11 +53,7 @@ pub fn has_wrong_count(theory: &Theory, statement: &Statement) -> bool
 }
 
 /// The first operand that is a name which holds no term.
-pub fn first_unset<'a>(
-    theory: &Theory,
-    store: &[(Name, Term)],
-    statement: &'a Statement,
-) -> Option<&'a Name>
+pub fn first_unset<'a>(theory: &Theory, store: &Store, statement: &'a Statement) -> Option<&'a Name>
     ensures { option_copied result ≡ unset_first store.now (reads theory.now statement.now) }
 {
     match statement {
@@ -69,7 +66,7 @@ pub fn first_unset<'a>(
     }
 }
 
-fn first_unset_of<'a>(store: &[(Name, Term)], operands: &'a [Operand]) -> Option<&'a Name>
+fn first_unset_of<'a>(store: &Store, operands: &'a [Operand]) -> Option<&'a Name>
     ensures { option_copied result ≡ unset_first store.now operands.now }
 {
     let mut rest = operands;
@@ -82,7 +79,7 @@ fn first_unset_of<'a>(store: &[(Name, Term)], operands: &'a [Operand]) -> Option
     None
 }
 
-fn unset_name<'a>(store: &[(Name, Term)], operand: &'a Operand) -> Option<&'a Name>
+fn unset_name<'a>(store: &Store, operand: &'a Operand) -> Option<&'a Name>
     ensures { option_copied result ≡ name_unset store.now operand.now }
 {
     match operand {
@@ -99,10 +96,10 @@ fn unset_name<'a>(store: &[(Name, Term)], operand: &'a Operand) -> Option<&'a Na
 }
 
 /// Whether the name holds a term.
-pub fn is_held(store: &[(Name, Term)], name: &Name) -> bool
+pub fn is_held(store: &Store, name: &Name) -> bool
     ensures { result ≡ is_name_held store.now name.now }
 {
-    term_held(store, name).is_some()
+    store.get(name).is_some()
 }
 
 /// The first of the operands, as many as that.
@@ -129,7 +126,7 @@ pub fn behind(operands: &[Operand], count: usize) -> &[Operand]
 
 /// Whether an operand's term has another sort than its place, there is no such literal, or what is
 /// copied may not be.
-pub fn has_wrong_sort(scene: &Scene, store: &[(Name, Term)], statement: &Statement) -> bool
+pub fn has_wrong_sort(scene: &Scene, store: &Store, statement: &Statement) -> bool
     ensures { result ≡ is_sort_wrong scene.now.theory.now scene.now.diagram.now scene.now.ins.now store.now statement.now }
 {
     match statement {
@@ -154,12 +151,7 @@ pub fn has_wrong_sort(scene: &Scene, store: &[(Name, Term)], statement: &Stateme
     }
 }
 
-fn fit_operands(
-    scene: &Scene,
-    store: &[(Name, Term)],
-    places: &[SortId],
-    operands: &[Operand],
-) -> bool
+fn fit_operands(scene: &Scene, store: &Store, places: &[SortId], operands: &[Operand]) -> bool
     ensures { result ≡ are_operands_fitting scene.now.theory.now scene.now.ins.now store.now places.now operands.now }
 {
     let mut left = places;
@@ -179,7 +171,7 @@ fn fit_operands(
     rest.is_empty()
 }
 
-fn fits_operand(scene: &Scene, store: &[(Name, Term)], place: SortId, operand: &Operand) -> bool
+fn fits_operand(scene: &Scene, store: &Store, place: SortId, operand: &Operand) -> bool
     ensures { result ≡ is_operand_fitting scene.now.theory.now scene.now.ins.now store.now place operand.now }
 {
     match operand {
@@ -193,10 +185,10 @@ fn fits_operand(scene: &Scene, store: &[(Name, Term)], place: SortId, operand: &
 }
 
 /// The sort of the term that a name holds, if it holds one.
-pub fn held_sort(scene: &Scene, store: &[(Name, Term)], name: &Name) -> Option<SortId>
+pub fn held_sort(scene: &Scene, store: &Store, name: &Name) -> Option<SortId>
     ensures { result ≡ term_sort scene.now.theory.now scene.now.ins.now (held_under store.now name.now) }
 {
-    match term_held(store, name) {
+    match store.get(name) {
         Some(term) => sort_in(scene, term),
         None => None,
     }
@@ -213,12 +205,12 @@ fn sort_in(scene: &Scene, term: &Term) -> Option<SortId>
 }
 
 /// The term that the first argument of a copy holds, if it is a name that holds one.
-pub fn copied_term<'a>(store: &'a [(Name, Term)], args: &[Operand]) -> Option<&'a Term>
+pub fn copied_term<'a>(store: &'a Store, args: &[Operand]) -> Option<&'a Term>
     ensures { option_copied result ≡ term_copied store.now args.now }
 {
     match args {
         [from, ..] => match name_in(from) {
-            Some(name) => term_held(store, name),
+            Some(name) => store.get(name),
             None => None,
         },
         [] => None,
@@ -226,7 +218,7 @@ pub fn copied_term<'a>(store: &'a [(Name, Term)], args: &[Operand]) -> Option<&'
 }
 
 /// The sort of the term that the first argument of a copy holds.
-pub fn copied_sort(scene: &Scene, store: &[(Name, Term)], args: &[Operand]) -> Option<SortId>
+pub fn copied_sort(scene: &Scene, store: &Store, args: &[Operand]) -> Option<SortId>
     ensures { result ≡ term_sort scene.now.theory.now scene.now.ins.now (term_copied store.now args.now) }
 {
     match copied_term(store, args) {
@@ -247,7 +239,7 @@ fn is_copied_by(theory: &Theory, routine: &Name, sort: Option<SortId>) -> bool
     }
 }
 
-fn fits_assign(scene: &Scene, store: &[(Name, Term)], target: &Name, from: &Operand) -> bool
+fn fits_assign(scene: &Scene, store: &Store, target: &Name, from: &Operand) -> bool
     ensures { result ≡ is_assign_fitting scene.now.theory.now scene.now.ins.now store.now (output_sort scene.now.diagram.now target.now) from.now }
 {
     match from {

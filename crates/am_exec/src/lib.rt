@@ -12,6 +12,8 @@ mod fault;
 mod faults;
 mod laws;
 mod lookups;
+mod name_index;
+mod operands;
 mod running;
 mod scene;
 mod store;

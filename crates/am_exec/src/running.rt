@@ -6,11 +6,11 @@ ghost use Rattle.am_exec.specs.Effects.{put as put_all};
 ghost use Rattle.am_exec.specs.Terms.{terms, unless, stated as run_on, ended as run_to_end, terms_held as all_held, IsAnswer};
 
 use crate::declarations::{bad_declaration, is_bad_head, lacks_dummy};
-use crate::effects::put;
+use crate::effects::effects;
 use crate::fault::{ExecFault, ExecKind};
 use crate::faults::{first_unset, has_wrong_count, has_wrong_sort, is_unknown};
 use crate::scene::Scene;
-use crate::store::{inputs_held, term_held};
+use crate::store::{Store, inputs_held};
 use crate::targets::{is_badly_declared, is_too_large, sets_twice};
 use am_diagram::Diagram;
 use am_fortran::{Statement, Unit};
@@ -80,7 +80,7 @@ fn stated(alloc: Global, scene: &Scene) -> Result<Items<Term>, ExecFault>
         item += 1;
         rest = behind;
     }
-    ended(alloc, scene.diagram, scene.unit, item, store.as_slice())
+    ended(alloc, scene.diagram, scene.unit, item, &store)
 }
 
 // What the names hold behind a statement, or its first kind of fault.
@@ -89,14 +89,17 @@ fn step(
     alloc: Global,
     scene: &Scene,
     item: u32,
-    store: Items<(Name, Term)>,
+    store: Store,
     statement: &Statement,
-) -> Result<Items<(Name, Term)>, ExecFault>
+) -> Result<Store, ExecFault>
     ensures { IsAnswer result (unless item (first_kind scene.now.theory.now scene.now.diagram.now scene.now.unit.now scene.now.ins.now store statement.now) (put_all scene.now.theory.now scene.now.diagram.now store statement.now)) }
 {
-    match statement_kind(alloc, scene, store.as_slice(), statement)? {
+    match statement_kind(alloc, scene, &store, statement)? {
         Some(kind) => Err(ExecFault { item, kind }),
-        None => Ok(put(alloc, scene, store, statement)?),
+        None => {
+            let made = effects(alloc, scene, &store, statement)?;
+            Ok(store.with_all(alloc, made)?)
+        }
     }
 }
 
@@ -104,7 +107,7 @@ fn step(
 fn statement_kind(
     alloc: Global,
     scene: &Scene,
-    store: &[(Name, Term)],
+    store: &Store,
     statement: &Statement,
 ) -> Result<Option<ExecKind>, NoMemory>
     ensures { IfOk result (λ kind. kind ≡ first_kind scene.now.theory.now scene.now.diagram.now scene.now.unit.now scene.now.ins.now store.now statement.now) }
@@ -141,7 +144,7 @@ fn ended(
     diagram: &Diagram,
     unit: &Unit,
     item: u32,
-    store: &[(Name, Term)],
+    store: &Store,
 ) -> Result<Items<Term>, ExecFault>
     ensures { IsAnswer result (run_to_end diagram.now unit.now item store.now) }
 {
@@ -165,14 +168,14 @@ fn ended(
 fn outputs_held(
     alloc: Global,
     diagram: &Diagram,
-    store: &[(Name, Term)],
+    store: &Store,
 ) -> Result<Option<Items<Term>>, NoMemory>
     ensures { IfOk result (λ terms. terms ≡ all_held store.now (names_of diagram.now.outputs)) }
 {
     let mut made = Items::new(alloc);
     let mut rest = diagram.outputs.as_slice();
     while let [output, behind @ ..] = rest {
-        match term_held(store, &output.0) {
+        match store.get(&output.0) {
             Some(term) => made.push(copy(alloc, term)?)?,
             None => return Ok(None),
         }

@@ -12,8 +12,9 @@ ghost use Rattle.am_exec.specs.ItemFaults.{names_set, is_large as is_term_large,
 use crate::declarations::{declared_type, further, lacks_dummy, may_be_set};
 use crate::faults::{behind, copied_sort, copied_term, front, held_sort, is_held, literal_for};
 use crate::lookups::{argument_sorts, function_named, is_declared, result_sort, routine_named};
+use crate::operands::{MOST_NODES, name_in, operands_nodes};
 use crate::scene::Scene;
-use crate::store::{MOST_NODES, name_in, operands_nodes, term_held};
+use crate::store::Store;
 use crate::types::{have_one_type, type_of_name};
 use am_fortran::{Operand, Statement};
 use am_term::{Name, SortId, SymId, Term, weight};
@@ -21,7 +22,7 @@ use am_theory::Theory;
 
 /// Whether a target holds a term already or stands twice. Takes no memory, as all in this file.
 #[tactic(auto, using(crate::proofs::Putting::setting))]
-pub fn sets_twice(theory: &Theory, store: &[(Name, Term)], statement: &Statement) -> bool
+pub fn sets_twice(theory: &Theory, store: &Store, statement: &Statement) -> bool
     ensures { result ≡ is_set_twice theory.now store.now statement.now }
 {
     match statement {
@@ -35,7 +36,7 @@ pub fn sets_twice(theory: &Theory, store: &[(Name, Term)], statement: &Statement
 }
 
 #[tactic(auto, using(crate::proofs::Putting::setting))]
-fn set_twice(store: &[(Name, Term)], targets: &[Operand]) -> bool
+fn set_twice(store: &Store, targets: &[Operand]) -> bool
     ensures { result ≡ (list_any (is_name_held store.now) (names_set targets.now) || not (are_distinct (names_set targets.now))) }
 {
     let mut rest = targets;
@@ -67,7 +68,7 @@ fn is_target_of(name: &Name, targets: &[Operand]) -> bool
 
 /// Whether a dummy has no declaration, a function applied isn't declared, or a target isn't a declared
 /// name that may be set with the type of what is put there.
-pub fn is_badly_declared(scene: &Scene, store: &[(Name, Term)], statement: &Statement) -> bool
+pub fn is_badly_declared(scene: &Scene, store: &Store, statement: &Statement) -> bool
     ensures { result ≡ is_declared_badly scene.now.theory.now scene.now.diagram.now scene.now.unit.now scene.now.ins.now store.now statement.now }
 {
     if lacks_dummy(scene.unit) {
@@ -149,12 +150,7 @@ fn is_target(scene: &Scene, target: &Name, sort: Option<SortId>) -> bool
     }
 }
 
-fn assigned_sort(
-    scene: &Scene,
-    store: &[(Name, Term)],
-    target: &Name,
-    from: &Operand,
-) -> Option<SortId>
+fn assigned_sort(scene: &Scene, store: &Store, target: &Name, from: &Operand) -> Option<SortId>
     ensures { result ≡ sort_assigned scene.now.theory.now scene.now.ins.now store.now (output_sort scene.now.diagram.now target.now) from.now }
 {
     match from {
@@ -184,7 +180,7 @@ fn applied_sort(theory: &Theory, function: &Name) -> Option<SortId>
 
 /// Whether a term that a target is to hold has more nodes than it may have.
 #[tactic(auto, using(crate::proofs::Putting::measuring))]
-pub fn is_too_large(scene: &Scene, store: &[(Name, Term)], statement: &Statement) -> bool
+pub fn is_too_large(scene: &Scene, store: &Store, statement: &Statement) -> bool
     ensures { result ≡ is_large_put scene.now.theory.now scene.now.diagram.now store.now statement.now }
 {
     match statement {
@@ -201,7 +197,7 @@ pub fn is_too_large(scene: &Scene, store: &[(Name, Term)], statement: &Statement
             },
         },
         Statement::Assign { from, .. } => match from {
-            Operand::Name(name) => match term_held(store, name) {
+            Operand::Name(name) => match store.get(name) {
                 Some(term) => is_large(term),
                 None => false,
             },
@@ -221,7 +217,7 @@ pub fn is_too_large(scene: &Scene, store: &[(Name, Term)], statement: &Statement
 #[tactic(auto, using(crate::proofs::Putting::measuring))]
 fn has_large_output(
     theory: &Theory,
-    store: &[(Name, Term)],
+    store: &Store,
     places: &[SortId],
     inputs: &[Operand],
     outputs: &[SymId],

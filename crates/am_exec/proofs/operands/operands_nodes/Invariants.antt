@@ -1,7 +1,7 @@
 use Rattle.std.proofs.Common.{◌≡◌, length, ◌+◌, ◌≤◌, min, sum_by}
 use Rattle.am_term.specs.Weight.{nodes}
 use Rattle.am_exec.specs.States.{operand_terms}
-use Rattle.am_exec.proofs.store.operands_nodes.Given as goal
+use Rattle.am_exec.proofs.operands.operands_nodes.Given as goal
 
 -- what was made, with what is left, is all
 abbrev pub invariant-loop-left : goal.invariant-loop-left

@@ -1,6 +1,6 @@
 use Rattle.std.proofs.Common.{◌≡◌, length, ◌++◌}
 use Rattle.am_exec.specs.States.{operand_terms}
-use Rattle.am_exec.proofs.store.operand_terms.Given as goal
+use Rattle.am_exec.proofs.operands.operand_terms.Given as goal
 
 -- what was made, with what is left, is all
 abbrev pub invariant-loop-left : goal.invariant-loop-left
