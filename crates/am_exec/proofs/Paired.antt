@@ -1,5 +1,5 @@
 -- Names and their terms, kept in two lists.
-use Rattle.std.proofs.Common.{◌≡◌, ◌∙◌, ◌++◌, ℕ, zero, suc, true, false, Bool, refl, sym, ap, arith, List, [], ◌∷◌, Option, Some, None, length, cond, slice_get, option_map, option_and_then, if◌then◌else◌}
+use Rattle.std.proofs.Common.{◌≡◌, ◌∙◌, ◌++◌, ℕ, suc, true, false, Bool, refl, sym, ap, arith, List, [], ◌∷◌, Option, Some, None, length, cond, slice_get, option_map, if◌then◌else◌}
 use Rattle.std.proofs.lemmas.Grind.{common_steps}
 use Rattle.std.specs.List.{remove}
 use Rattle.std.specs.Str.{bytes_eq}

@@ -1,5 +1,5 @@
 -- Where a name stands first once one more is at the end.
-use Rattle.std.proofs.Common.{◌≡◌, ◌∙◌, ◌++◌, ℕ, zero, suc, true, false, Bool, refl, sym, ap, arith, List, [], ◌∷◌, Option, Some, None, length, cond, is_some, option_map, if◌then◌else◌}
+use Rattle.std.proofs.Common.{◌≡◌, ◌∙◌, ◌++◌, ℕ, suc, true, false, Bool, refl, sym, ap, List, [], ◌∷◌, Option, Some, None, length, cond, is_some, option_map, if◌then◌else◌}
 use Rattle.std.specs.Str.{bytes_eq}
 use Rattle.am_term.proofs.Tests.{never_both, fails}
 use Rattle.am_exec.proofs.Held.{eq_is, eq_flip}

@@ -1,4 +1,4 @@
-use Rattle.std.proofs.Common.{◌≡◌, IfOk, subst, sym, map, drop}
+use Rattle.std.proofs.Common.{◌≡◌, IfOk, subst, sym}
 use Rattle.am_exec.specs.States.{Store}
 use Rattle.am_exec.proofs.Stores.{copy_entry}
 use Rattle.am_exec.proofs.effects.copied.Goals as goal

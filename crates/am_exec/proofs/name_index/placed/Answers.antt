@@ -1,9 +1,7 @@
-use Rattle.std.proofs.Common.{◌≡◌, ◌∙◌, ◌++◌, ◌∷◌, [], ℕ, List, Some, cond, arith, is_some, true, false, sym, ap, length}
+use Rattle.std.proofs.Common.{◌≡◌, arith, is_some, true, false}
 use Rattle.std.proofs.lemmas.Grind.{common_steps}
 use Rattle.std.proofs.lemmas.Map.Text.{text_keys}
 use Rattle.std.specs.HashMap.{get_by_text}
-use Rattle.std.specs.Str.{bytes_eq}
-use Rattle.am_exec.specs.Places.{or_at}
 use Rattle.am_exec.proofs.Placed.{place_kept, place_new}
 use Rattle.am_exec.proofs.name_index.placed.Goals as goal
 

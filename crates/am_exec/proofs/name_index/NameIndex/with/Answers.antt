@@ -1,5 +1,4 @@
-use Rattle.std.proofs.Common.{◌≡◌, ◌∙◌, ◌++◌, ◌∷◌, [], ℕ, List, Option, sym, ap, length}
-use Rattle.std.specs.HashMap.{get_by_text}
+use Rattle.std.proofs.Common.{◌≡◌, ◌∙◌, ◌++◌, ◌∷◌, [], ℕ, List, Option, sym, ap}
 use Rattle.std.specs.Str.{bytes_eq}
 use Rattle.am_exec.specs.Places.{first_place, or_at}
 use Rattle.am_exec.proofs.Placed.{place_push}
