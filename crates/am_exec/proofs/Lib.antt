@@ -1,0 +1,15 @@
+pub mod Answering
+pub mod Declared
+pub mod Dummies
+pub mod Held
+pub mod Keeping
+pub mod Listed
+pub mod Names
+pub mod Paired
+pub mod Passing
+pub mod Placed
+pub mod Putting
+pub mod Ruled
+pub mod Stores
+pub mod Typing
+pub mod Valued
