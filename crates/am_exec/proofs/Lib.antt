@@ -1,0 +1,13 @@
+pub mod Answering
+pub mod Declared
+pub mod Dummies
+pub mod Held
+pub mod Keeping
+pub mod Listed
+pub mod Names
+pub mod Passing
+pub mod Ruled
+pub mod Stores
+pub mod Targets
+pub mod Typing
+pub mod Valued

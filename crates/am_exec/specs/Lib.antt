@@ -1,6 +1,11 @@
+pub mod Effects
 pub mod Given
+pub mod ItemFaults
 pub mod Lawful
+pub mod Laws
 pub mod Literals
 pub mod Right
 pub mod Run
+pub mod States
+pub mod Terms
 pub mod Types

@@ -1,5 +1,5 @@
 -- Which literal symbol an operand stands for.
-use Rattle.std.specs.Prelude.{◌&&◌, ℕ, ℤ, Bool, true, false, Option, Some, None, List, find, option_map, slice_get}
+use Rattle.std.specs.Prelude.{◌&&◌, Bool, false, Option, Some, None, find, option_map}
 use Rattle.std.specs.Ordering.{int_eq}
 use Rattle.std.specs.Str.{bytes_eq}
 use Rattle.am_term.specs.declared.id.SortId.{SortId}

@@ -1,5 +1,5 @@
 -- When a unit solves a diagram.
-use Rattle.std.specs.Prelude.{◌≡◌, ℕ, Option, Some, None, List, [], ◌∷◌, map}
+use Rattle.std.specs.Prelude.{◌≡◌, ℕ, Some, List, map}
 use Rattle.am_world.specs.Interpretation.{Interpretation}
 use Rattle.am_theory.specs.declared.theory.Theory.{Theory}
 use Rattle.am_diagram.specs.declared.diagram.Diagram.{Diagram}

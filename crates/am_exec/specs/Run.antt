@@ -1,9 +1,8 @@
 -- Which numbers a unit leaves under which names, in an interpretation.
-use Rattle.std.specs.Prelude.{◌∷◌, ℕ, Bool, true, false, Option, Some, None, List, [], length, take, drop, cond, is_some, option_map, option_and_then}
+use Rattle.std.specs.Prelude.{◌∷◌, ℕ, Bool, Option, Some, None, List, [], length, take, drop, cond, option_map, option_and_then}
 use Rattle.std.specs.Str.{bytes_eq}
 use Rattle.am_term.specs.declared.id.SortId.{SortId}
 use Rattle.am_term.specs.declared.id.SymId.{SymId}
-use Rattle.am_term.specs.declared.symbol.Symbol.{Symbol}
 use Rattle.am_term.specs.NameLists.{is_among}
 use Rattle.am_world.specs.Interpretation.{Interpretation}
 use Rattle.am_theory.specs.declared.theory.Routine.{Routine}

@@ -1,5 +1,5 @@
 -- The FORTRAN type that a sort gives to a name.
-use Rattle.std.specs.Prelude.{ℕ, Bool, true, false, Option, Some, None, List, if◌then◌else◌}
+use Rattle.std.specs.Prelude.{◌==◌, ◌&&◌, ℕ, Bool, true, false, Option, Some, None, List, if◌then◌else◌}
 use Rattle.am_term.specs.declared.id.SortId.{SortId}
 use Rattle.am_term.specs.NameLists.{is_among}
 use Rattle.am_theory.specs.declared.theory.Rep.{Rep}
@@ -46,3 +46,20 @@ type_by f (Some r) = Some (f r)
 -- the type that a sort gives to a name, a dummy or not; an abstract sort gives none
 abbrev pub type_of_name : Theory → List (List ℕ) → List ℕ → SortId → Option FortranType
 type_of_name t dummies n s = if is_among n dummies then type_by dummy_type (rep_of t s) else type_by local_type (rep_of t s)
+
+-- a text of whatever length: a dummy's type alone
+abbrev pub is_text_of_any_length : FortranType → Bool
+is_text_of_any_length fortran.CharAny = true
+is_text_of_any_length _ = false
+
+-- one type, with one length or the same extents
+abbrev pub same_type : FortranType → FortranType → Bool
+same_type fortran.Double fortran.Double = true
+same_type fortran.Integer fortran.Integer = true
+same_type fortran.Logical fortran.Logical = true
+same_type (fortran.Char m) (fortran.Char n) = m == n
+same_type fortran.CharAny fortran.CharAny = true
+same_type (fortran.DoubleVec m) (fortran.DoubleVec n) = m == n
+same_type (fortran.DoubleMat k m) (fortran.DoubleMat l n) = k == l && m == n
+same_type (fortran.IntegerVec m) (fortran.IntegerVec n) = m == n
+same_type _ _ = false

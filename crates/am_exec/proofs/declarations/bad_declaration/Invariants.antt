@@ -1,0 +1,7 @@
+use Rattle.std.proofs.Common.{◌≡◌, [], take, drop}
+use Rattle.am_exec.specs.Terms.{bad_declaration}
+use Rattle.am_exec.proofs.declarations.bad_declaration.Given as goal
+
+-- what is left decides
+abbrev pub invariant-loop-i : goal.invariant-loop-i
+invariant-loop-i l = bad_declaration l.theory l.diagram l.unit (take l.i l.declarations) (drop l.i l.declarations) ≡ bad_declaration l.theory l.diagram l.unit [] l.declarations

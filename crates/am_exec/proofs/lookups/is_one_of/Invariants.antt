@@ -1,0 +1,10 @@
+use Rattle.std.proofs.Common.{◌≡◌, length}
+use Rattle.am_term.specs.NameLists.{is_among}
+use Rattle.am_exec.proofs.lookups.is_one_of.Given as goal
+
+-- what is left decides
+abbrev pub invariant-loop-rest : goal.invariant-loop-rest
+invariant-loop-rest l = is_among l.name l.names ≡ is_among l.name l.rest
+
+abbrev pub decreases-loop-rest : goal.decreases-loop-rest
+decreases-loop-rest l = length l.rest

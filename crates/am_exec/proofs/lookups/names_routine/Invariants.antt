@@ -1,0 +1,11 @@
+use Rattle.std.proofs.Common.{◌≡◌, length, map}
+use Rattle.am_term.specs.NameLists.{is_among}
+use Rattle.am_theory.specs.declared.theory.Routine.{Routine}
+use Rattle.am_exec.proofs.lookups.names_routine.Given as goal
+
+-- what is left decides
+abbrev pub invariant-loop-rest : goal.invariant-loop-rest
+invariant-loop-rest l = is_among l.name (map (λ (r : Routine). r.name) l.theory.routines) ≡ is_among l.name (map (λ (r : Routine). r.name) l.rest)
+
+abbrev pub decreases-loop-rest : goal.decreases-loop-rest
+decreases-loop-rest l = length l.rest

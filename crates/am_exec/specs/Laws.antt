@@ -1,0 +1,35 @@
+-- What the run of a unit by terms tells of its runs by numbers, and of the unit rules.
+use Rattle.std.specs.Prelude.{◌≡◌, ℕ, Some, Ok, List, [], map}
+use Rattle.am_term.specs.declared.term.Term.{Term}
+use Rattle.am_world.specs.Interpretation.{Interpretation, Members}
+use Rattle.am_world.specs.Value.{Assignment, values}
+use Rattle.am_theory.specs.declared.theory.Theory.{Theory}
+use Rattle.am_theory.specs.Facts.{WellFormed}
+use Rattle.am_diagram.specs.declared.diagram.Diagram.{Diagram}
+use Rattle.am_diagram.specs.Canonical.{names_of, sorts_in}
+use Rattle.am_fortran.specs.declared.unit.Unit.{Unit as Subroutine}
+use Rattle.am_exec.specs.Given.{Given, Spec, numbered}
+use Rattle.am_exec.specs.Run.{State, held, run}
+use Rattle.am_exec.specs.Lawful.{Lawful}
+use Rattle.am_exec.specs.Right.{Right}
+use Rattle.am_exec.specs.Terms.{terms}
+
+-- where the run by terms has no fault, the unit keeps the unit rules
+abbrev pub KeepsRules : Type 0
+KeepsRules = (t : Theory) (d : Diagram) (u : Subroutine) (ts : List Term) → WellFormed t → terms t d u ≡ Ok ts → Lawful t d u
+
+-- there is a run, and at its end each output holds the value of its term
+pub record RunsTo (w : Interpretation) (t : Theory) (d : Diagram) (u : Subroutine) (ins : List ℕ) (a : Assignment) (ts : List Term) : Type 0 where
+  pub end : State
+  pub runs : run w t d u ins ≡ Some end
+  pub hold : map (held end) (names_of d.outputs) ≡ map Some (values w ins a ts)
+
+-- Where the run by terms has no fault, the unit runs in every interpretation, for all inputs that are
+-- members of their sorts, whatever variables stand for.
+abbrev pub RunsByTerms : Type 0
+RunsByTerms = (w : Interpretation) (t : Theory) (d : Diagram) (u : Subroutine) (ins : List ℕ) (a : Assignment) (ts : List Term) → Members w (sorts_in d.inputs) ins → terms t d u ≡ Ok ts → RunsTo w t d u ins a ts
+
+-- a unit is right in an interpretation where the values of its outputs' terms are what the diagram asks for
+abbrev pub IsRightByTerms : Type 0
+IsRightByTerms = (w : Interpretation) (t : Theory) (d : Diagram) (u : Subroutine) (ts : List Term) → WellFormed t → terms t d u ≡ Ok ts
+    → ((ins : List ℕ) → Given w d ins → Spec w d ins (values w ins (numbered []) ts)) → Right w t d u

@@ -1,0 +1,60 @@
+-- Which term each name holds while a unit is run by terms.
+use Rattle.std.specs.Prelude.{◌++◌, ℕ, suc, Bool, Option, Some, None, List, [], ◌∷◌, cond, is_some, option_map}
+use Rattle.std.specs.Str.{bytes_eq}
+use Rattle.am_term.specs.declared.id.SortId.{SortId}
+use Rattle.am_term.specs.declared.id.SymId.{SymId}
+use Rattle.am_term.specs.declared.term.Term.{Term}
+use Rattle.am_term.specs.declared.term.Term.TheVariants.{In, App}
+use Rattle.am_theory.specs.declared.theory.Theory.{Theory}
+use Rattle.am_fortran.specs.declared.statement.Operand.{Operand}
+use Rattle.am_fortran.specs.declared.statement.Operand.TheVariants as operand
+use Rattle.am_exec.specs.Literals.{literal_at}
+
+-- the terms that names hold, in the order in which they were set: of two pairs with one name the first counts
+abbrev pub Store : Type 0
+Store = List (List ℕ × Term)
+
+-- the term that a name holds, if it holds one
+abbrev pub term_held : Store → List ℕ → Option Term
+term_held [] n = None
+term_held (p ∷ ps) n = cond (bytes_eq p.0 n) (Some p.1) (term_held ps n)
+
+-- the name holds a term
+abbrev pub is_held : Store → List ℕ → Bool
+is_held store n = is_some (term_held store n)
+
+-- the inputs' names from the k-th on, each with its input
+abbrev pub inputs_from : ℕ → List (List ℕ × SortId) → Store
+inputs_from k [] = []
+inputs_from k (d ∷ ds) = (d.0, In k) ∷ inputs_from (suc k) ds
+
+-- at the start each input's name holds that input
+abbrev pub inputs_held : List (List ℕ × SortId) → Store
+inputs_held ds = inputs_from 0 ds
+
+-- the names hold these terms in turn; a term for which there is no name goes nowhere
+abbrev pub entries : List (Option (List ℕ)) → List Term → Store
+entries [] ts = []
+entries (n ∷ ns) [] = []
+entries (None ∷ ns) (t ∷ ts) = entries ns ts
+entries (Some n ∷ ns) (t ∷ ts) = (n, t) ∷ entries ns ts
+
+-- the term of a literal symbol
+abbrev pub literal_term : SymId → Term
+literal_term f = App f []
+
+-- the term that an operand stands for at a place: a name for what it holds, a literal for its symbol
+abbrev pub operand_term : Theory → Store → SortId → Operand → Option Term
+operand_term t store place (operand.Name n) = term_held store n
+operand_term t store place (operand.Int z) = option_map literal_term (literal_at t place (operand.Int z))
+operand_term t store place (operand.Text x) = option_map literal_term (literal_at t place (operand.Text x))
+
+abbrev pub listed_term : Option Term → List Term
+listed_term None = []
+listed_term (Some t) = t ∷ []
+
+-- the terms that operands stand for at their places; what stands for none is left out
+abbrev pub operand_terms : Theory → Store → List SortId → List Operand → List Term
+operand_terms t store [] os = []
+operand_terms t store (s ∷ ss) [] = []
+operand_terms t store (s ∷ ss) (o ∷ os) = listed_term (operand_term t store s o) ++ operand_terms t store ss os
