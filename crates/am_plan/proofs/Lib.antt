@@ -1,0 +1,5 @@
+pub mod Belonging
+pub mod Calling
+pub mod Going
+pub mod Holding
+pub mod Standing
