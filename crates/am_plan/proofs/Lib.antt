@@ -1,5 +1,6 @@
 pub mod Belonging
 pub mod Calling
+pub mod Copying
 pub mod Going
 pub mod Holding
 pub mod Standing
