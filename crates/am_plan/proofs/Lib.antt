@@ -3,4 +3,5 @@ pub mod Calling
 pub mod Copying
 pub mod Going
 pub mod Holding
+pub mod Running
 pub mod Standing
