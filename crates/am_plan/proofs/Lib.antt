@@ -1,4 +1,5 @@
 pub mod Belonging
+pub mod Callees
 pub mod Calling
 pub mod Copying
 pub mod Going
