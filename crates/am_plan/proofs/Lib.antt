@@ -1,3 +1,4 @@
+pub mod Asked
 pub mod Belonging
 pub mod Callees
 pub mod Calling
