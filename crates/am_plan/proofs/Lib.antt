@@ -5,5 +5,6 @@ pub mod Calling
 pub mod Copying
 pub mod Going
 pub mod Holding
+pub mod Once
 pub mod Running
 pub mod Standing
