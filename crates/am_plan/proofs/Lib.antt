@@ -3,8 +3,10 @@ pub mod Belonging
 pub mod Callees
 pub mod Calling
 pub mod Copying
+pub mod Counted
 pub mod Going
 pub mod Holding
+pub mod Naming
 pub mod Once
 pub mod Running
 pub mod Standing
