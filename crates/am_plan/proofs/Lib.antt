@@ -4,6 +4,7 @@ pub mod Callees
 pub mod Calling
 pub mod Copying
 pub mod Counted
+pub mod Declaring
 pub mod Going
 pub mod Holding
 pub mod Naming
