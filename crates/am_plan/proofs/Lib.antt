@@ -7,7 +7,9 @@ pub mod Counted
 pub mod Declaring
 pub mod Going
 pub mod Holding
+pub mod Locals
 pub mod Naming
 pub mod Once
+pub mod Planned
 pub mod Running
 pub mod Standing

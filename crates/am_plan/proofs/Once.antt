@@ -3,6 +3,8 @@ use Rattle.std.proofs.Common.{◌≡◌, ◌∙◌, ◌⊎◌, inl, inr, ◌++�
 use Rattle.std.proofs.lemmas.Bool.Decides.{nat_tests}
 use Rattle.std.proofs.lemmas.List.{append-nil}
 use Rattle.std.specs.List.{AllByRecursion, filter, flat_map}
+use Rattle.std.specs.Str.{bytes_eq}
+use Rattle.am_exec.proofs.Held.{eq_is, eq_same}
 use Rattle.am_term.specs.declared.id.SortId.{SortId}
 use Rattle.am_term.specs.declared.id.SymId.{SymId}
 use Rattle.am_term.specs.declared.term.Term.{Term}
@@ -23,7 +25,7 @@ use Rattle.am_plan.specs.declared.call.Callee.{Callee}
 use Rattle.am_plan.specs.declared.call.Callee.TheVariants as callee
 use Rattle.am_plan.specs.declared.call.PlannedCall.{PlannedCall}
 use Rattle.am_plan.specs.Calls.{completed, call_with, same_callee, same_call, asked, calls, outputs_at, value_at, made_by, made}
-use Rattle.am_plan.proofs.Belonging.{Among, Different, all-among, map-among, among-left, among-right, among-split, flat-among, among-flat, different-left, different-right, different-append, different-map}
+use Rattle.am_plan.proofs.Belonging.{Among, Different, all-among, among-map, map-among, among-left, among-right, among-split, flat-among, among-flat, different-left, different-right, different-append, different-map}
 use Rattle.am_plan.proofs.Standing.{Available}
 use Rattle.am_plan.proofs.Callees.{Computes, one-callee, outputs-different}
 use Rattle.am_plan.proofs.Running.{CalleeFits, IsReady, AreReady}
@@ -81,14 +83,45 @@ different-filter {A = A} p (z ∷ zs) h = by_test (p z) (different-filter p zs h
     by_test true r = ((λ a. h.0 (filter-so p z zs a).0), r)
     by_test false r = r
 
+pub distinct-from : {A : Type 0} (same : A → A → Bool) (x : A) (xs : List A) → Among x (distinct same xs) → Among x xs
+distinct-from {A = A} same x [] a = a
+distinct-from {A = A} same x (z ∷ zs) (inl e) = inl e
+distinct-from {A = A} same x (z ∷ zs) (inr a) = inr (distinct-from same x zs (filter-so (λ (y : A). not (same z y)) x (distinct same zs) a).0)
+
+-- by names, one of each name stays
+pub distinct-has : {A : Type 0} (f : A → List ℕ) (x : A) (xs : List A) → Among x xs → (y : A) × Among y (distinct (λ (p q : A). bytes_eq (f p) (f q)) xs) × (f y ≡ f x)
+distinct-has {A = A} f x [] a = absurd a
+distinct-has {A = A} f x (z ∷ zs) (inl e) = (z, inl refl, ap f (sym e))
+distinct-has {A = A} f x (z ∷ zs) (inr a) = by_test (distinct-has f x zs a)
+  where
+    by_name : (y : A) → Among y (distinct (λ (p q : A). bytes_eq (f p) (f q)) zs) → f y ≡ f x → (b : Bool) → bytes_eq (f z) (f y) ≡ b → (w : A) × Among w (z ∷ filter (λ (q : A). not (bytes_eq (f z) (f q))) (distinct (λ (p q : A). bytes_eq (f p) (f q)) zs)) × (f w ≡ f x)
+    by_name y b e true is = (z, inl refl, eq_is (f z) (f y) is ∙ e)
+    by_name y b e false is = (y, inr (filter-among (λ (q : A). not (bytes_eq (f z) (f q))) y (distinct (λ (p q : A). bytes_eq (f p) (f q)) zs) b (not_false (bytes_eq (f z) (f y)) is)), e)
+
+    by_test : (y : A) × Among y (distinct (λ (p q : A). bytes_eq (f p) (f q)) zs) × (f y ≡ f x) → (w : A) × Among w (z ∷ filter (λ (q : A). not (bytes_eq (f z) (f q))) (distinct (λ (p q : A). bytes_eq (f p) (f q)) zs)) × (f w ≡ f x)
+    by_test r = by_name r.0 r.1 r.2 (bytes_eq (f z) (f r.0)) refl
+
+names-filter : {A : Type 0} (f : A → List ℕ) (p : A → Bool) (xs : List A) → Different (map f xs) → Different (map f (filter p xs))
+names-filter {A = A} f p [] h = tt
+names-filter {A = A} f p (z ∷ zs) h = by_test (p z) (names-filter f p zs h.1)
+  where
+    by_test : (b : Bool) → Different (map f (filter p zs)) → Different (map f (cond b (z ∷ filter p zs) (filter p zs)))
+    by_test true r = ((λ a. let e = map-among f (f z) (filter p zs) a in h.0 (subst (λ (n : List ℕ). Among n (map f zs)) (sym e.2) (among-map f e.0 zs (filter-so p e.0 zs e.1).0))), r)
+    by_test false r = r
+
+pub distinct-names : {A : Type 0} (f : A → List ℕ) (xs : List A) → Different (map f (distinct (λ (p q : A). bytes_eq (f p) (f q)) xs))
+distinct-names {A = A} f [] = tt
+distinct-names {A = A} f (z ∷ zs) = (
+  (λ a.
+  let e = map-among f (f z) (filter (λ (q : A). not (bytes_eq (f z) (f q))) (distinct (λ (p q : A). bytes_eq (f p) (f q)) zs)) a in
+  let r = filter-so (λ (q : A). not (bytes_eq (f z) (f q))) e.0 (distinct (λ (p q : A). bytes_eq (f p) (f q)) zs) e.1 in
+  true≢false (sym (subst (λ (n : List ℕ). bytes_eq (f z) n ≡ true) e.2 (eq_same (f z))) ∙ true_not (bytes_eq (f z) (f e.0)) r.1)),
+  names-filter f (λ (q : A). not (bytes_eq (f z) (f q))) (distinct (λ (p q : A). bytes_eq (f p) (f q)) zs) (distinct-names f zs),
+)
+
 module _ {A : Type 0} (same : A → A → Bool) (sound : (x y : A) → same x y ≡ true → x ≡ y) (whole : (x : A) → same x x ≡ true) where
   abbrev others : A → A → Bool
   others x y = not (same x y)
-
-  pub distinct-so : (x : A) (xs : List A) → Among x (distinct same xs) → Among x xs
-  distinct-so x [] a = a
-  distinct-so x (z ∷ zs) (inl e) = inl e
-  distinct-so x (z ∷ zs) (inr a) = inr (distinct-so x zs (filter-so (others z) x (distinct same zs) a).0)
 
   pub distinct-among : (x : A) (xs : List A) → Among x xs → Among x (distinct same xs)
   distinct-among x [] a = a
@@ -168,7 +201,7 @@ module _ (t : Theory) (d : Diagram) where
         by_one (inl e) = (fit.0.symbol, e, (fit.0, fit.1, refl))
         by_one (inr a) = absurd a
 
-    opened : (f g : SymId) (xs ys : List Term) → App f xs ≡ App g ys → (f ≡ g) × (xs ≡ ys)
+    pub opened : (f g : SymId) (xs ys : List Term) → App f xs ≡ App g ys → (f ≡ g) × (xs ≡ ys)
     opened f g xs ys e = let o : Term-F.App f xs ≡ Term-F.App g ys = sym (outs-App f xs) ∙ ap out-Term e ∙ outs-App g ys in (cc, cc)
 
     pub one-maker : (b c : PlannedCall) (x : Term) → CalleeFits t (sorts_in d.inputs) b.args b.callee → CalleeFits t (sorts_in d.inputs) c.args c.callee → Among x (made_by t b) → Among x (made_by t c) → b ≡ c

@@ -35,6 +35,7 @@ use Rattle.am_plan.proofs.Holding.{names_in, held-there, inputs-among}
 use Rattle.am_plan.proofs.Standing.{Available, StandsFor, operand-stands}
 use Rattle.am_plan.proofs.Calling.{Puts, pairs, targets_of, pairs-names, routine-puts, function-puts}
 use Rattle.am_plan.proofs.Copying.{Copies, copy-puts}
+use Rattle.am_plan.proofs.Locals.{copied}
 use Rattle.am_plan.proofs.Going.{Goes, goes-append, goes-one}
 
 -- what is called has this number, and its inputs are the sorts' places
@@ -174,12 +175,6 @@ module _ (t : Theory) (h : WellFormed t) (d : Diagram) (u : Subroutine) (lacks :
 
   -- ---- copies
 
-  -- the pairs that the copies put
-  abbrev pub copied : List (List ℕ × SortId) → List Term → Store
-  copied [] xs = []
-  copied (o ∷ os) [] = []
-  copied (o ∷ os) (x ∷ xs) = (if is_set names o.0 then [] else (o.0, x) ∷ []) ++ copied os xs
-
   -- each output can be copied to, and its term is there
   abbrev pub AreCopied : List Term → List (List ℕ × SortId) → List Term → Type 0
   AreCopied done [] [] = Unit {0}
@@ -199,15 +194,15 @@ module _ (t : Theory) (h : WellFormed t) (d : Diagram) (u : Subroutine) (lacks :
   keeps-more : (done : List Term) (store more : Store) → Keeps store done → Keeps (store ++ more) done
   keeps-more done store more k = record { inputs = λ i e at. among-left (e.0, In i) store more (k.inputs i e at); there = λ y a. among-left (name y, y) store more (k.there y a) }
 
-  pub copies-go : (done : List Term) (store : Store) (os : List (List ℕ × SortId)) (xs : List Term) → AreCopied done os xs → Keeps store done → Different (names_in (store ++ copied os xs)) → Goes t d u store (copies t d names os xs) (store ++ copied os xs)
+  pub copies-go : (done : List Term) (store : Store) (os : List (List ℕ × SortId)) (xs : List Term) → AreCopied done os xs → Keeps store done → Different (names_in (store ++ copied names os xs)) → Goes t d u store (copies t d names os xs) (store ++ copied names os xs)
   copies-go done store [] xs can keeps differ = sym (append-nil store)
   copies-go done store (o ∷ os) [] can keeps differ = absurd can
   copies-go done store (o ∷ os) (x ∷ xs) can keeps differ =
       let new : Store = if is_set names o.0 then [] else (o.0, x) ∷ [] in
-      let regrouped : store ++ (new ++ copied os xs) ≡ (store ++ new) ++ copied os xs = sym (append_assoc store new (copied os xs)) in
-      let names_differ : Different (names_in ((store ++ new) ++ copied os xs)) = subst (λ (s : Store). Different (names_in s)) regrouped differ in
-      let fewer : Different (names_in (store ++ new)) = different-left (names_in (store ++ new)) (names_in (copied os xs)) (subst (λ (ns : List (List ℕ)). Different ns) (map-append (λ (e : List ℕ × Term). e.0) (store ++ new) (copied os xs)) names_differ) in
-      goes-append t d u store (store ++ new) (store ++ (new ++ copied os xs)) (if is_set names o.0 then [] else copy_to t o (op x) ∷ []) (copies t d names os xs)
+      let regrouped : store ++ (new ++ copied names os xs) ≡ (store ++ new) ++ copied names os xs = sym (append_assoc store new (copied names os xs)) in
+      let names_differ : Different (names_in ((store ++ new) ++ copied names os xs)) = subst (λ (s : Store). Different (names_in s)) regrouped differ in
+      let fewer : Different (names_in (store ++ new)) = different-left (names_in (store ++ new)) (names_in (copied names os xs)) (subst (λ (ns : List (List ℕ)). Different ns) (map-append (λ (e : List ℕ × Term). e.0) (store ++ new) (copied names os xs)) names_differ) in
+      goes-append t d u store (store ++ new) (store ++ (new ++ copied names os xs)) (if is_set names o.0 then [] else copy_to t o (op x) ∷ []) (copies t d names os xs)
       (copy-goes done store o x can.0.0 can.0.1 keeps (is_set names o.0) fewer)
       (subst (λ (s : Store). Goes t d u (store ++ new) (copies t d names os xs) s) (sym regrouped)
       (copies-go done (store ++ new) os xs can.1 (keeps-more done store new keeps) names_differ))
