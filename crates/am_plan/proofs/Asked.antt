@@ -1,6 +1,6 @@
 -- Each call that a term asks for has its arguments done before it.
 use Rattle.std.proofs.Common.{◌≡◌, ◌∙◌, ◌⊎◌, inl, inr, ◌++◌, ◌&&◌, ◌+◌, ◌<◌, ◌≤◌, ℕ, zero, suc, arith, Bool, true, false, refl, sym, ap, subst, List, [], ◌∷◌, Option, Some, None, map, slice_get, is_some, option_map, sum_by, true≢false, append_assoc, if◌then◌else◌}
-use Rattle.std.proofs.lemmas.List.{append-nil, map-append}
+use Rattle.std.proofs.lemmas.List.{append-nil}
 use Rattle.std.proofs.lemmas.Grind.{flat_map-append}
 use Rattle.std.proofs.lemmas.List.Sums.{sum_by-append}
 use Rattle.std.specs.List.{AllByRecursion, list_all, flat_map}
@@ -11,17 +11,13 @@ use Rattle.am_term.specs.declared.kind.SymKind.TheVariants as kind
 use Rattle.am_term.specs.declared.symbol.Symbol.{Symbol}
 use Rattle.am_term.specs.declared.signature.Signature.{Signature}
 use Rattle.am_term.specs.declared.term.Term.{Term}
-use Rattle.am_term.specs.declared.term.Term.TheOpen.{Term-F}
-use Rattle.am_term.specs.declared.term.Term.TheViews.{out-Term}
-use Rattle.am_term.specs.declared.term.Term.TheVariants.{Var, In, App, outs-Var, outs-In, outs-App}
-use Rattle.am_term.specs.Fold.{fold-Var, fold-In, fold-App, para-Var, para-In, para-App}
-use Rattle.am_term.specs.Induct.{term_induct, terms_induct}
+use Rattle.am_term.specs.declared.term.Term.TheVariants.{Var, In, App, outs-In, outs-App}
+use Rattle.am_term.specs.Fold.{fold-Var, fold-App, para-In, para-App}
+use Rattle.am_term.specs.Induct.{terms_induct}
 use Rattle.am_term.specs.Symbols.{is_computable}
 use Rattle.am_term.specs.Sorting.{fits_place, fit_places, result_at, sort_of, sorts_of, sort_of-In, sort_of-App}
 use Rattle.am_term.specs.Weight.{nodes, nodes-App}
 use Rattle.am_term.proofs.Tests.{and_left, and_right}
-use Rattle.am_theory.specs.declared.theory.Routine.{Routine}
-use Rattle.am_theory.specs.declared.theory.FortranFunction.{FortranFunction}
 use Rattle.am_theory.specs.declared.theory.LiteralDecl.{LiteralDecl}
 use Rattle.am_theory.specs.declared.theory.Theory.{Theory}
 use Rattle.am_theory.specs.Lookups.{args_of, argument_sorts}
@@ -34,13 +30,13 @@ use Rattle.am_plan.specs.declared.call.PlannedCall.{PlannedCall}
 use Rattle.am_plan.specs.Calls.{under_step, terms_below, completed, callee_of, call_with, call_at, call_of, listed, outputs_at, value_at, made_by}
 use Rattle.am_plan.specs.Plan.{literal_of}
 use Rattle.am_plan.specs.Answers.{is_computable_symbol, ready_step, is_ready}
-use Rattle.am_plan.proofs.Belonging.{Among, all-among, among-all, among-map, among-left, among-right, among-split, among-flat}
-use Rattle.am_plan.proofs.Standing.{Available, IsInput, IsConstant, IsDone}
-use Rattle.am_plan.proofs.Callees.{Computes, callee-computes, no-routine, no-function, contains-among, routine-stands, stands-args, computed-literal, literal-callee, literal-there, literal-found}
-use Rattle.am_plan.proofs.Running.{CalleeFits, IsReady, AreReady}
+use Rattle.am_plan.proofs.Belonging.{Among, all-among, among-map, among-left, among-right, among-split, among-flat}
+use Rattle.am_plan.proofs.Standing.{Available}
+use Rattle.am_plan.proofs.Callees.{Computes, callee-computes, no-routine, no-function, contains-among, routine-stands, stands-args, computed-literal, literal-there, literal-found}
+use Rattle.am_plan.proofs.Running.{CalleeFits, AreReady}
 
 -- ---- equations
-is_ready-Var : (sig : Signature) (n : ℕ) (s : SortId) → is_ready sig (Var n s) ≡ false
+pub is_ready-Var : (sig : Signature) (n : ℕ) (s : SortId) → is_ready sig (Var n s) ≡ false
 unfolding is_ready
 is_ready-Var sig n s = fold-Var Bool (ready_step sig) n s
 
@@ -92,13 +88,13 @@ pub record IsFine (t : Theory) (ins : List SortId) (x : Term) : Type 0 where
   pub small : nodes x ≤ 400
 
 -- its symbol and its arguments
-record HasParts (t : Theory) (ins : List SortId) (f : SymId) (args : List Term) : Type 0 where
-  symbol : Symbol
-  there : slice_get t.sig.symbols f.0 ≡ Some symbol
-  computable : is_computable symbol.kind ≡ true
-  fit : fit_places t.sig (sorts_of t.sig ins args) symbol.args ≡ true
-  below : AllByRecursion (IsFine t ins) args
-  few : sum_by nodes args + 1 ≤ 400
+pub record HasParts (t : Theory) (ins : List SortId) (f : SymId) (args : List Term) : Type 0 where
+  pub symbol : Symbol
+  pub there : slice_get t.sig.symbols f.0 ≡ Some symbol
+  pub computable : is_computable symbol.kind ≡ true
+  pub fit : fit_places t.sig (sorts_of t.sig ins args) symbol.args ≡ true
+  pub below : AllByRecursion (IsFine t ins) args
+  pub few : sum_by nodes args + 1 ≤ 400
 
 some_place : (sig : Signature) (o : Option SortId) (p : SortId) → fits_place sig o p ≡ true → is_some o ≡ true
 some_place sig None p e = absurd (true≢false (sym e))
@@ -123,13 +119,12 @@ args-fine t ins (x ∷ xs) (p ∷ ps) r s n =
     let ready = is_ready t.sig x in
     let others = list_all (λ (b : Bool). b) (map (is_ready t.sig) xs) in
     let fit = fits_place t.sig (sort_of t.sig ins x) p in
-    let rest = fit_places t.sig (sorts_of t.sig ins xs) ps in
-    (
+    let rest = fit_places t.sig (sorts_of t.sig ins xs) ps in (
       record { ready = and_left ready others r; sorted = some_place t.sig (sort_of t.sig ins x) p (and_left fit rest s); small = sum_left (nodes x) (sum_by nodes xs) (sum_by nodes (x ∷ xs)) (nodes-first x xs) n },
       args-fine t ins xs ps (and_right ready others r) (and_right fit rest s) (sum_right (nodes x) (sum_by nodes xs) (sum_by nodes (x ∷ xs)) (nodes-first x xs) n),
     )
 
-parts : (t : Theory) (ins : List SortId) (f : SymId) (args : List Term) → IsFine t ins (App f args) → HasParts t ins f args
+pub parts : (t : Theory) (ins : List SortId) (f : SymId) (args : List Term) → IsFine t ins (App f args) → HasParts t ins f args
 parts t ins f args g = by_symbol (slice_get t.sig.symbols f.0) refl (sym (is_ready-App t.sig f args) ∙ g.ready) (sym (ap is_some (sort_of-App t.sig ins f args)) ∙ g.sorted)
   where
     few : sum_by nodes args + 1 ≤ 400
@@ -225,10 +220,9 @@ module _ (t : Theory) (d : Diagram) where
         let before = asks t (flat_map completed args) in
         let this = call_with args c in
         let whole : asks t (completed (App f args)) ≡ before ++ this ∷ [] = asks-App t f args ∙ ap (λ (o : Option Callee). before ++ (listed (option_map (call_with args) o) ++ [])) is in
-        let few : sum_by nodes args < 10000 = below (sum_by nodes args) p.few in
-        (
+        let few : sum_by nodes args < 10000 = below (sum_by nodes args) p.few in (
           subst (λ (cs : List PlannedCall). AreReady t d [] cs) (sym whole)
-          (ready-append [] before (this ∷ []) ready (record { available = available; fit = callee-fits f args p.symbol c p.there p.fit computes; small = few }, tt)),
+              (ready-append [] before (this ∷ []) ready (record { available = available; fit = callee-fits f args p.symbol c p.there p.fit computes; small = few }, tt)),
           inr (inr (record {
             symbol = f;
             args = args;
@@ -246,25 +240,51 @@ module _ (t : Theory) (d : Diagram) where
     among-index {A = A} (z ∷ zs) x (inl e) = (0, ap Some (sym e))
     among-index {A = A} (z ∷ zs) x (inr a) = let r = among-index zs x a in (suc r.0, r.1)
 
-    literal-ordered : (f : SymId) (args : List Term) → HasParts t ins f args → callee_of t f ≡ None → AreReady t d [] (asks t (flat_map completed args)) → (y : Symbol) → slice_get t.sig.symbols f.0 ≡ Some y → y.kind ≡ kind.Literal
-        → AreReady t d [] (asks t (completed (App f args))) × Available t d (made_of (asks t (completed (App f args)))) (App f args)
-    literal-ordered f args p is ready y at literal =
-        let before = asks t (flat_map completed args) in
-        let whole : asks t (completed (App f args)) ≡ before = asks-App t f args ∙ ap (λ (o : Option Callee). before ++ (listed (option_map (call_with args) o) ++ [])) is ∙ append-nil before in
-        let l = literal-there t h f y at literal in
+    no_args : (xs : List Term) → fit_places t.sig (sorts_of t.sig ins xs) [] ≡ true → xs ≡ []
+    no_args [] e = refl
+    no_args (x ∷ xs) e = absurd (true≢false (sym e))
+
+    -- a computable symbol that has no callee is a literal's
+    uncalled-kind : (f : SymId) (y : Symbol) (k : SymKind) → slice_get t.sig.symbols f.0 ≡ Some y → y.kind ≡ k → is_computable k ≡ true → callee_of t f ≡ None → y.kind ≡ kind.Literal
+    uncalled-kind f y kind.Function at is c none = absurd (true≢false (sym c))
+    uncalled-kind f y kind.Relation at is c none = absurd (true≢false (sym c))
+    uncalled-kind f y kind.Literal at is c none = is
+    uncalled-kind f y kind.Output at is c none =
+        let o = h.outputs f.0 y at is in
+        absurd (no-routine t f o.0 (contains-among t.routines o.0 o.1) (contains-among o.0.outputs f o.2) none)
+    uncalled-kind f y kind.Value at is c none =
+        let o = h.values f.0 y at is in
+        absurd (no-function t f o.0 (contains-among t.functions o.0 o.1) (ap (λ (i : ℕ). let r : SymId = record { 0 = i } in r) o.2) none)
+
+    record IsLiteralOf (f : SymId) : Type 0 where
+      decl : LiteralDecl
+      index : ℕ
+      there : slice_get t.literals index ≡ Some decl
+      found : literal_of t f ≡ Some decl
+      symbol : decl.symbol ≡ f
+      stands : Stands t f kind.Literal []
+
+    uncalled-literal : (f : SymId) (args : List Term) → HasParts t ins f args → callee_of t f ≡ None → IsLiteralOf f
+    uncalled-literal f args p is =
+        let l = literal-there t h f p.symbol p.there (uncalled-kind f p.symbol p.symbol.kind p.there refl p.computable is) in
         let found = literal-found t h f l.0 l.1 in
         let place = among-index t.literals l.0 found.0 in
         let stands = (all-among (IsLiteral t) l.0 t.literals h.literals found.0).stands in
-        let no_places : p.symbol.args ≡ [] = stands-args t h f kind.Literal [] p.symbol p.there (subst (λ (g : SymId). Stands t g kind.Literal []) found.1 stands) in
-        let none : args ≡ [] = no_args args (ap (fit_places t.sig (sorts_of t.sig ins args)) (sym no_places) ∙ p.fit) in
-        (
+        record { decl = l.0; index = place.0; there = place.1; found = l.1; symbol = found.1; stands = subst (λ (g : SymId). Stands t g kind.Literal []) found.1 stands }
+
+    -- and has no arguments
+    pub uncalled-none : (f : SymId) (args : List Term) → HasParts t ins f args → callee_of t f ≡ None → args ≡ []
+    uncalled-none f args p is = no_args args (ap (fit_places t.sig (sorts_of t.sig ins args)) (sym (stands-args t h f kind.Literal [] p.symbol p.there (uncalled-literal f args p is).stands)) ∙ p.fit)
+
+    literal-ordered : (f : SymId) (args : List Term) → HasParts t ins f args → callee_of t f ≡ None → AreReady t d [] (asks t (flat_map completed args))
+        → AreReady t d [] (asks t (completed (App f args))) × Available t d (made_of (asks t (completed (App f args)))) (App f args)
+    literal-ordered f args p is ready =
+        let before = asks t (flat_map completed args) in
+        let whole : asks t (completed (App f args)) ≡ before = asks-App t f args ∙ ap (λ (o : Option Callee). before ++ (listed (option_map (call_with args) o) ++ [])) is ∙ append-nil before in
+        let l = uncalled-literal f args p is in (
           subst (λ (cs : List PlannedCall). AreReady t d [] cs) (sym whole) ready,
-          inr (inl (record { decl = l.0; index = place.0; there = place.1; found = ap (literal_of t) found.1 ∙ l.1; is = ap (App f) none ∙ ap (λ (g : SymId). App g []) (sym found.1) })),
+          inr (inl (record { decl = l.decl; index = l.index; there = l.there; found = ap (literal_of t) l.symbol ∙ l.found; is = ap (App f) (uncalled-none f args p is) ∙ ap (λ (g : SymId). App g []) (sym l.symbol) })),
         )
-      where
-        no_args : (xs : List Term) → fit_places t.sig (sorts_of t.sig ins xs) [] ≡ true → xs ≡ []
-        no_args [] e = refl
-        no_args (x ∷ xs) e = absurd (true≢false (sym e))
 
     app-ordered : (f : SymId) (args : List Term) → AllOrdered args → Ordered (App f args)
     app-ordered f args q g =
@@ -272,21 +292,10 @@ module _ (t : Theory) (d : Diagram) where
         let before = q p.below in
         by_callee p before.0 before.1 (callee_of t f) refl
       where
-        by_kind : (y : Symbol) (k : SymKind) → slice_get t.sig.symbols f.0 ≡ Some y → y.kind ≡ k → is_computable k ≡ true → callee_of t f ≡ None → y.kind ≡ kind.Literal
-        by_kind y kind.Function at is c none = absurd (true≢false (sym c))
-        by_kind y kind.Relation at is c none = absurd (true≢false (sym c))
-        by_kind y kind.Literal at is c none = is
-        by_kind y kind.Output at is c none =
-            let o = h.outputs f.0 y at is in
-            absurd (no-routine t f o.0 (contains-among t.routines o.0 o.1) (contains-among o.0.outputs f o.2) none)
-        by_kind y kind.Value at is c none =
-            let o = h.values f.0 y at is in
-            absurd (no-function t f o.0 (contains-among t.functions o.0 o.1) (ap (λ (i : ℕ). let r : SymId = record { 0 = i } in r) o.2) none)
-
         by_callee : HasParts t ins f args → AreReady t d [] (asks t (flat_map completed args)) → AllByRecursion (Available t d (made_of (asks t (flat_map completed args)))) args → (o : Option Callee) → callee_of t f ≡ o
             → AreReady t d [] (asks t (completed (App f args))) × Available t d (made_of (asks t (completed (App f args)))) (App f args)
         by_callee p ready available (Some c) is = computed-ordered f args p c is ready available
-        by_callee p ready available None is = literal-ordered f args p is ready p.symbol p.there (by_kind p.symbol p.symbol.kind p.there refl p.computable is)
+        by_callee p ready available None is = literal-ordered f args p is ready
 
     more-ordered : (x : Term) (xs : List Term) → Ordered x → AllOrdered xs → AllOrdered (x ∷ xs)
     more-ordered x xs p q g =
@@ -295,8 +304,7 @@ module _ (t : Theory) (d : Diagram) where
         let first = asks t (completed x) in
         let later = asks t (flat_map completed xs) in
         let whole : asks t (completed x ++ flat_map completed xs) ≡ first ++ later = asks-append t (completed x) (flat_map completed xs) in
-        let made_whole : made_of (asks t (completed x ++ flat_map completed xs)) ≡ made_of first ++ made_of later = ap made_of whole ∙ flat_map-append (made_by t) first later in
-        (
+        let made_whole : made_of (asks t (completed x ++ flat_map completed xs)) ≡ made_of first ++ made_of later = ap made_of whole ∙ flat_map-append (made_by t) first later in (
           subst (λ (cs : List PlannedCall). AreReady t d [] cs) (sym whole) (ready-append [] first later one.0 (ready-more [] (made_of first) later (λ z a. absurd a) rest.0)),
           subst (λ (ys : List Term). AllByRecursion (Available t d ys) (x ∷ xs)) (sym made_whole) (
             available-more (made_of first) (made_of first ++ made_of later) x (λ z a. among-left z (made_of first) (made_of later) a) one.1,

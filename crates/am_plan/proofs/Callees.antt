@@ -1,13 +1,13 @@
 -- What computes a symbol.
-use Rattle.std.proofs.Common.{◌≡◌, ◌∙◌, ◌⊎◌, inl, inr, ◌++◌, ◌&&◌, ◌||◌, ◌==◌, ◌+◌, ◌<◌, ℕ, zero, suc, arith, Bool, true, false, not, refl, sym, ap, subst, List, [], ◌∷◌, Option, Some, None, cond, map, length, find, slice_get, slice_index_or, true≢false, Contains}
+use Rattle.std.proofs.Common.{◌≡◌, ◌∙◌, ◌⊎◌, inl, inr, ◌++◌, ◌||◌, ◌==◌, ◌+◌, ◌<◌, ℕ, zero, suc, arith, Bool, true, false, not, refl, sym, ap, subst, List, [], ◌∷◌, Option, Some, None, cond, map, length, find, slice_get, slice_index_or, true≢false, Contains}
 use Rattle.std.proofs.lemmas.Bool.Decides.{nat_tests}
-use Rattle.std.specs.List.{AllByRecursion, list_any, flat_map}
+use Rattle.std.specs.List.{flat_map}
 use Rattle.am_term.specs.declared.id.SortId.{SortId}
 use Rattle.am_term.specs.declared.id.SymId.{SymId}
 use Rattle.am_term.specs.declared.kind.SymKind.{SymKind}
 use Rattle.am_term.specs.declared.kind.SymKind.TheVariants as kind
 use Rattle.am_term.specs.declared.symbol.Symbol.{Symbol}
-use Rattle.am_term.proofs.Tests.{and_left, and_right, or_cases, not_true, true_not}
+use Rattle.am_term.proofs.Tests.{and_left, and_right, or_cases, true_not}
 use Rattle.am_theory.specs.declared.theory.Routine.{Routine}
 use Rattle.am_theory.specs.declared.theory.FortranFunction.{FortranFunction}
 use Rattle.am_theory.specs.declared.theory.LiteralDecl.{LiteralDecl}
@@ -17,7 +17,7 @@ use Rattle.am_plan.specs.declared.call.Callee.{Callee}
 use Rattle.am_plan.specs.declared.call.Callee.TheVariants as callee
 use Rattle.am_plan.specs.Calls.{has_symbol, or_else, routine_from, function_from, callee_of}
 use Rattle.am_plan.specs.Plan.{literal_of}
-use Rattle.am_plan.proofs.Belonging.{Among, Different, all-among, among-map, among-flat, among-left, among-right, different-left, different-right, different-apart}
+use Rattle.am_plan.proofs.Belonging.{Among, Different, all-among, among-map, among-flat, different-left, different-right, different-apart}
 use Rattle.am_plan.proofs.Standing.{all-index}
 use Rattle.am_plan.proofs.Calling.{index-among}
 use Rattle.am_plan.proofs.Copying.{find-among}
@@ -229,9 +229,10 @@ module _ (t : Theory) (h : WellFormed t) where
   -- ---- each symbol has one callee
   numbers-different : (fs : List SymId) → are_distinct_numbers fs ≡ true → Different fs
   numbers-different [] e = tt
-  numbers-different (f ∷ fs) e =
-      ((λ a. true≢false (sym (among-has f fs a) ∙ true_not (is_number_among f fs) (and_left (not (is_number_among f fs)) (are_distinct_numbers fs) e))),
-       numbers-different fs (and_right (not (is_number_among f fs)) (are_distinct_numbers fs) e))
+  numbers-different (f ∷ fs) e = (
+    (λ a. true≢false (sym (among-has f fs a) ∙ true_not (is_number_among f fs) (and_left (not (is_number_among f fs)) (are_distinct_numbers fs) e))),
+    numbers-different fs (and_right (not (is_number_among f fs)) (are_distinct_numbers fs) e),
+  )
 
   abbrev outputs_numbered : List SymId
   outputs_numbered = flat_map (λ (r : Routine). r.outputs) t.routines

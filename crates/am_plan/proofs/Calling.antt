@@ -1,5 +1,5 @@
 -- The statements of calls pass, and put what the calls make.
-use Rattle.std.proofs.Common.{◌≡◌, ◌∙◌, ◌⊎◌, inl, inr, ◌++◌, ◌||◌, ◌&&◌, ◌==◌, ◌+◌, ◌<◌, ℕ, zero, suc, arith, Bool, true, false, not, refl, sym, ap, subst, List, [], ◌∷◌, Option, Some, None, cond, map, length, take, drop, find, slice_get, is_none, is_some, true≢false, sum_by, if◌then◌else◌}
+use Rattle.std.proofs.Common.{◌≡◌, ◌∙◌, inl, inr, ◌++◌, ◌||◌, ◌==◌, ◌+◌, ◌<◌, ℕ, zero, suc, arith, Bool, true, false, not, refl, sym, ap, subst, List, [], ◌∷◌, Option, Some, cond, map, length, take, drop, find, slice_get, is_none, true≢false, sum_by}
 use Rattle.std.proofs.lemmas.Bool.Decides.{nat_tests}
 use Rattle.std.proofs.lemmas.List.{length-append, length-map}
 use Rattle.std.specs.List.{AllByRecursion, list_any, flat_map}
@@ -23,7 +23,7 @@ use Rattle.am_diagram.specs.Canonical.{sorts_in}
 use Rattle.am_fortran.specs.declared.statement.Operand.{Operand}
 use Rattle.am_fortran.specs.declared.statement.Operand.TheVariants as operand
 use Rattle.am_fortran.specs.declared.statement.Statement.{Statement}
-use Rattle.am_fortran.specs.declared.statement.Statement.TheVariants.{Call, Assign, Apply}
+use Rattle.am_fortran.specs.declared.statement.Statement.TheVariants.{Call, Apply}
 use Rattle.am_fortran.specs.declared.unit.Unit.{Unit as Subroutine}
 use Rattle.am_exec.specs.Run.{name_in}
 use Rattle.am_exec.specs.Lawful.{further, listed_target, call_targets}
@@ -34,14 +34,15 @@ use Rattle.am_exec.proofs.Held.{eq_is, eq_same, or_both}
 use Rattle.am_exec.proofs.Passing.{Passes}
 use Rattle.am_exec.proofs.Targets.{outputs-small}
 use Rattle.am_plan.proofs.Belonging.{Among, Different, among-map, different-left, different-right}
-use Rattle.am_plan.proofs.Holding.{names_in, is_among-so, among-is, not_among-is, different-distinct, none-held, entries-zip}
+use Rattle.am_plan.proofs.Holding.{names_in, among-is, different-distinct, none-held, entries-zip}
 use Rattle.am_plan.proofs.Standing.{StandsFor, operands-set, operands-fit, operands-are}
 
 pub distinct-different : (ns : List (List ℕ)) → are_distinct ns ≡ true → Different ns
 distinct-different [] e = tt
-distinct-different (n ∷ ns) e =
-    (λ a. true≢false (sym (among-is n ns a) ∙ true_not (is_among n ns) (and_left (not (is_among n ns)) (are_distinct ns) e)),
-     distinct-different ns (and_right (not (is_among n ns)) (are_distinct ns) e))
+distinct-different (n ∷ ns) e = (
+  λ a. true≢false (sym (among-is n ns a) ∙ true_not (is_among n ns) (and_left (not (is_among n ns)) (are_distinct ns) e)),
+  distinct-different ns (and_right (not (is_among n ns)) (are_distinct ns) e),
+)
 
 pub index-among : {A : Type 0} (xs : List A) (k : ℕ) (x : A) → slice_get xs k ≡ Some x → Among x xs
 index-among {A = A} [] k x at = absurd cc
@@ -99,7 +100,6 @@ pub record Puts (t : Theory) (d : Diagram) (u : Subroutine) (store : Store) (s :
 -- terms under their names
 abbrev pub pairs : (Term → List ℕ) → List Term → Store
 pairs name = map (λ (x : Term). (name x, x))
-
 
 module _ (name : Term → List ℕ) where
   -- the operands of names

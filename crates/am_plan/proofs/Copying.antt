@@ -1,19 +1,19 @@
 -- The copies pass, and give each output that no call sets its term.
-use Rattle.std.proofs.Common.{◌≡◌, ◌∙◌, ◌⊎◌, inl, inr, ◌++◌, ◌||◌, ◌&&◌, ◌==◌, ◌≤◌, ℕ, zero, suc, arith, Bool, true, false, not, refl, sym, ap, subst, List, [], ◌∷◌, Option, Some, None, cond, map, length, take, drop, find, slice_get, nat_lt, is_none, is_some, true≢false, if◌then◌else◌}
+use Rattle.std.proofs.Common.{◌≡◌, ◌∙◌, inl, inr, ◌++◌, ◌||◌, ◌&&◌, ◌==◌, ◌≤◌, ℕ, zero, suc, arith, Bool, true, false, not, refl, sym, ap, subst, List, [], ◌∷◌, Option, Some, None, cond, map, find, slice_get, nat_lt, is_some, true≢false, if◌then◌else◌}
 use Rattle.std.proofs.lemmas.Bool.Decides.{nat_tests}
-use Rattle.std.specs.List.{AllByRecursion, list_any, flat_map}
+use Rattle.std.specs.List.{list_any, flat_map}
 use Rattle.std.specs.Str.{bytes_eq}
 use Rattle.am_term.specs.declared.id.SortId.{SortId}
 use Rattle.am_term.specs.declared.id.SymId.{SymId}
 use Rattle.am_term.specs.declared.signature.Signature.{Signature}
 use Rattle.am_term.specs.declared.term.Term.{Term}
-use Rattle.am_term.specs.declared.term.Term.TheVariants.{In, App}
+use Rattle.am_term.specs.declared.term.Term.TheVariants.{App}
 use Rattle.am_term.specs.NameLists.{is_among, are_distinct}
 use Rattle.am_term.specs.Sorts.{fits}
 use Rattle.am_term.specs.Sorting.{fits_place, sort_of, term_fits}
 use Rattle.am_term.specs.Weight.{nodes}
 use Rattle.am_term.proofs.Forest.{fits-akin}
-use Rattle.am_term.proofs.Tests.{and_left, and_right, and_both, false_not, true_not}
+use Rattle.am_term.proofs.Tests.{and_right, and_both}
 use Rattle.am_theory.specs.declared.theory.Rep.{Rep}
 use Rattle.am_theory.specs.declared.theory.Rep.TheVariants as rep
 use Rattle.am_theory.specs.declared.theory.LitValue.{LitValue}
@@ -32,17 +32,16 @@ use Rattle.am_fortran.specs.declared.statement.Operand.TheVariants as operand
 use Rattle.am_fortran.specs.declared.statement.Statement.{Statement}
 use Rattle.am_fortran.specs.declared.statement.Statement.TheVariants.{Call, Assign}
 use Rattle.am_fortran.specs.declared.unit.Unit.{Unit as Subroutine}
-use Rattle.am_exec.specs.Run.{name_in, output_sort, is_copy}
+use Rattle.am_exec.specs.Run.{name_in, output_sort}
 use Rattle.am_exec.specs.Literals.{literal_at}
 use Rattle.am_exec.specs.Types.{is_scalar}
 use Rattle.am_exec.specs.Lawful.{call_targets}
 use Rattle.am_exec.specs.States.{Store, term_held, is_held, entries, listed_term}
-use Rattle.am_exec.specs.Effects.{read_by_call, set_by_call, call_terms, call_sorts, literal_for, literal_term_of, literal_sort, term_sort, put}
+use Rattle.am_exec.specs.Effects.{read_by_call, set_by_call, call_terms, call_sorts, literal_for, literal_term_of, literal_sort, term_sort}
 use Rattle.am_exec.specs.ItemFaults.{is_unknown_call, call_count, or_later, first_unset, fits_call, is_copied_by, is_name_of, is_scalar_rep, is_scalar_sort, is_target, are_targets, lacks_dummy, is_large}
 use Rattle.am_exec.proofs.Held.{eq_is, eq_same, or_both}
-use Rattle.am_plan.specs.Names.{Named}
 use Rattle.am_plan.specs.Plan.{written_value, is_array_rep, copy_name, copy_to}
-use Rattle.am_plan.proofs.Belonging.{Among, Different, all-among, among-map, among-left, among-right}
+use Rattle.am_plan.proofs.Belonging.{Among, all-among, among-map, among-left, among-right}
 use Rattle.am_plan.proofs.Holding.{names_in, among-is, none-held}
 use Rattle.am_plan.proofs.Standing.{StandsFor, all-index, literal-at, literal-sorted}
 use Rattle.am_plan.proofs.Calling.{Puts}
@@ -72,7 +71,7 @@ copy-no_routine t h n a = by_routine (routine_named t n) refl
         let there = find-among (λ (q : Routine). bytes_eq q.name n) t.routines r is in
         let name : r.name ≡ n = eq_is r.name n there.1 in
         let apart = all-among (λ (m : List ℕ). is_among m (copy_names t) ≡ false) r.name (called_names t) h.called_apart
-              (among-left r.name (map (λ (q : Routine). q.name) t.routines) (map (λ (f : FortranFunction). f.name) t.functions) (among-map (λ (q : Routine). q.name) r t.routines there.0)) in
+        (among-left r.name (map (λ (q : Routine). q.name) t.routines) (map (λ (f : FortranFunction). f.name) t.functions) (among-map (λ (q : Routine). q.name) r t.routines there.0)) in
         absurd (true≢false (sym (among-is n (copy_names t) a) ∙ ap (λ (m : List ℕ). is_among m (copy_names t)) (sym name) ∙ apart))
 
 -- a literal's sort is kept in a scalar

@@ -1,5 +1,5 @@
 -- The calls of an answer make fewer terms than there are names of locals.
-use Rattle.std.proofs.Common.{◌≡◌, ◌∙◌, ◌++◌, ◌+◌, ◌*◌, ◌<◌, ◌≤◌, ℕ, zero, suc, arith, Bool, true, false, not, cond, refl, sym, ap, subst, List, [], ◌∷◌, Option, Some, None, map, length, sum_by}
+use Rattle.std.proofs.Common.{◌≡◌, ◌∙◌, ◌++◌, ◌+◌, ◌*◌, ◌<◌, ◌≤◌, ℕ, suc, arith, Bool, true, false, not, cond, refl, sym, ap, subst, List, [], ◌∷◌, Option, Some, None, length, sum_by}
 use Rattle.std.proofs.lemmas.List.{length-append, length-map}
 use Rattle.std.specs.List.{AllByRecursion, filter, flat_map}
 use Rattle.am_term.specs.declared.id.SortId.{SortId}
@@ -18,8 +18,7 @@ use Rattle.am_plan.specs.declared.call.Callee.{Callee}
 use Rattle.am_plan.specs.declared.call.Callee.TheVariants as callee
 use Rattle.am_plan.specs.declared.call.PlannedCall.{PlannedCall}
 use Rattle.am_plan.specs.Calls.{under_step, terms_below, completed, call_of, call_with, listed, same_call, asked, calls, outputs_at, value_at, made_by, made}
-use Rattle.am_plan.specs.Answers.{Serves, AllServe}
-use Rattle.am_plan.proofs.Belonging.{Among}
+use Rattle.am_plan.specs.Answers.{AllServe}
 use Rattle.am_plan.proofs.Standing.{all-index}
 use Rattle.am_plan.proofs.Running.{CalleeFits}
 use Rattle.am_plan.proofs.Asked.{asks, nodes-first, terms_below-In, terms_below-App}

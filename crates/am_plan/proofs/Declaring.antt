@@ -1,18 +1,17 @@
 -- The head and the declarations of a plan are good, and its targets may be set.
-use Rattle.std.proofs.Common.{◌≡◌, ◌∙◌, ◌⊎◌, inl, inr, ◌++◌, ◌&&◌, ◌||◌, ◌==◌, ◌+◌, ◌<◌, ◌≤◌, ℕ, zero, suc, arith, Bool, true, false, not, refl, sym, ap, subst, List, [], ◌∷◌, Option, Some, None, map, length, drop, find, slice_get, option_map, nat_lt, is_none, is_some, true≢false, append_assoc, if◌then◌else◌}
+use Rattle.std.proofs.Common.{◌≡◌, ◌∙◌, ◌⊎◌, inl, inr, ◌++◌, ◌&&◌, ◌==◌, ◌+◌, ◌≤◌, ℕ, zero, suc, arith, Bool, true, false, not, refl, sym, ap, subst, List, [], ◌∷◌, Option, Some, None, map, length, drop, find, slice_get, option_map, nat_lt, is_none, is_some, true≢false, append_assoc, if◌then◌else◌}
 use Rattle.std.proofs.lemmas.Bool.Decides.{nat_tests}
 use Rattle.std.proofs.lemmas.List.{length-append, length-map, map-append}
-use Rattle.std.specs.List.{AllByRecursion, flat_map}
+use Rattle.std.specs.List.{AllByRecursion}
 use Rattle.std.specs.Str.{bytes_eq}
 use Rattle.am_term.specs.declared.id.SortId.{SortId}
 use Rattle.am_term.specs.declared.id.SymId.{SymId}
-use Rattle.am_term.specs.declared.kind.SymKind.TheVariants as kind
 use Rattle.am_term.specs.declared.term.Term.{Term}
 use Rattle.am_term.specs.declared.term.Term.TheViews.{out-Term}
 use Rattle.am_term.specs.declared.term.Term.TheVariants.{App, outs-App}
 use Rattle.am_term.specs.Names.{is_fortran_name, is_local_name}
 use Rattle.am_term.specs.NameLists.{is_among}
-use Rattle.am_term.proofs.Tests.{and_left, and_right, and_both, or_left, or_right, not_false, true_not, fails}
+use Rattle.am_term.proofs.Tests.{and_right, and_both, or_left, or_right, not_false, true_not}
 use Rattle.am_theory.specs.declared.theory.Rep.{Rep}
 use Rattle.am_theory.specs.declared.theory.Rep.TheVariants as rep
 use Rattle.am_theory.specs.declared.theory.Routine.{Routine}
@@ -20,7 +19,7 @@ use Rattle.am_theory.specs.declared.theory.FortranFunction.{FortranFunction}
 use Rattle.am_theory.specs.declared.theory.Theory.{Theory}
 use Rattle.am_theory.specs.Lookups.{rep_of, result_of, result_sort, function_named, copy_names, fortran_names}
 use Rattle.am_theory.specs.Faults.{is_free_name}
-use Rattle.am_theory.specs.Facts.{WellFormed, IsConcrete, Stands, IsRoutine, IsFunction}
+use Rattle.am_theory.specs.Facts.{WellFormed, IsConcrete, IsRoutine, IsFunction}
 use Rattle.am_diagram.specs.declared.diagram.Diagram.{Diagram}
 use Rattle.am_diagram.specs.Facts.{WellFormed as WellFormedDiagram, IsFree, sorts_of, all_names}
 use Rattle.am_fortran.specs.declared.statement.FortranType.{FortranType}
@@ -35,7 +34,7 @@ use Rattle.am_exec.proofs.Held.{eq_is, eq_same, or_both}
 use Rattle.am_plan.specs.Names.{local_name, Named}
 use Rattle.am_plan.specs.Plan.{names_of, rep_or_double, dummy_decl, head_of, rep_of_sort, rep_of_head, local_decl, function_decl, arguments}
 use Rattle.am_plan.proofs.Belonging.{Among, Different, all-among, among-all, among-map, map-among, among-left, among-right, among-split, different-left, different-right, different-apart, different-append}
-use Rattle.am_plan.proofs.Holding.{not_among-is, among-is, is_among-so}
+use Rattle.am_plan.proofs.Holding.{not_among-is, among-is}
 use Rattle.am_plan.proofs.Calling.{find-named, distinct-different}
 use Rattle.am_plan.proofs.Copying.{find-among}
 use Rattle.am_plan.proofs.Naming.{local-is}

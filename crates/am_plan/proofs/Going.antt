@@ -1,5 +1,5 @@
 -- Units whose statements go on without a fault.
-use Rattle.std.proofs.Common.{◌≡◌, ◌∙◌, ◌+◌, ◌++◌, ℕ, Bool, true, false, refl, sym, ap, subst, List, [], ◌∷◌, Option, Some, None, Result, Ok, Err, length, if◌then◌else◌}
+use Rattle.std.proofs.Common.{◌≡◌, ◌∙◌, ◌+◌, ◌++◌, ℕ, Bool, false, refl, sym, ap, subst, List, [], ◌∷◌, Option, Some, None, Ok, Err, length, if◌then◌else◌}
 use Rattle.am_term.specs.declared.id.SortId.{SortId}
 use Rattle.am_term.specs.declared.term.Term.{Term}
 use Rattle.am_theory.specs.declared.theory.Theory.{Theory}
@@ -9,11 +9,10 @@ use Rattle.am_fortran.specs.declared.statement.Statement.{Statement}
 use Rattle.am_fortran.specs.declared.unit.Unit.{Unit as Subroutine}
 use Rattle.am_exec.specs.declared.fault.ExecKind.{ExecKind}
 use Rattle.am_exec.specs.declared.fault.ExecKind.TheVariants.{BadDeclaration}
-use Rattle.am_exec.specs.declared.fault.ExecFault.{ExecFault}
 use Rattle.am_exec.specs.States.{Store, inputs_held}
 use Rattle.am_exec.specs.Effects.{put}
 use Rattle.am_exec.specs.ItemFaults.{is_bad_head, lacks_dummy, statement_kind}
-use Rattle.am_exec.specs.Terms.{◌>>=◌, fault_at, bad_declaration, terms_held, outputs_at, ended, unless, stated, declared, terms}
+use Rattle.am_exec.specs.Terms.{◌>>=◌, fault_at, bad_declaration, terms_held, outputs_at, unless, stated, declared, terms}
 use Rattle.am_exec.proofs.Passing.{Passes}
 
 pub kind-none : (t : Theory) (d : Diagram) (u : Subroutine) (ins : List SortId) (store : Store) (s : Statement) → Passes t d u ins store s → statement_kind t d u ins store s ≡ None

@@ -1,5 +1,5 @@
 -- What the names of a store hold.
-use Rattle.std.proofs.Common.{◌≡◌, ◌∙◌, ◌⊎◌, inl, inr, ◌++◌, ◌||◌, ◌&&◌, ℕ, zero, suc, ◌+◌, arith, Bool, true, false, not, refl, sym, ap, subst, List, [], ◌∷◌, Option, Some, None, cond, map, slice_get, is_some, true≢false}
+use Rattle.std.proofs.Common.{◌≡◌, ◌∙◌, ◌⊎◌, inl, inr, ◌||◌, ℕ, zero, suc, ◌+◌, arith, Bool, true, false, not, refl, sym, ap, subst, List, [], ◌∷◌, Some, None, cond, map, slice_get, is_some, true≢false}
 use Rattle.std.specs.List.{list_any}
 use Rattle.std.specs.Str.{bytes_eq}
 use Rattle.am_term.specs.declared.id.SortId.{SortId}
@@ -9,7 +9,7 @@ use Rattle.am_term.specs.NameLists.{is_among, are_distinct}
 use Rattle.am_term.proofs.Tests.{and_both, not_false, fails, or_cases}
 use Rattle.am_exec.specs.States.{Store, term_held, is_held, inputs_from, entries}
 use Rattle.am_exec.proofs.Held.{eq_is, eq_same, or_both}
-use Rattle.am_plan.proofs.Belonging.{Among, Different, among-map, different-right}
+use Rattle.am_plan.proofs.Belonging.{Among, Different, among-map}
 
 -- names
 abbrev pub names_in : Store → List (List ℕ)

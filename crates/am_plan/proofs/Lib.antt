@@ -9,6 +9,7 @@ pub mod Going
 pub mod Holding
 pub mod Locals
 pub mod Naming
+pub mod Needed
 pub mod Once
 pub mod Planned
 pub mod Running

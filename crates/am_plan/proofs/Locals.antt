@@ -1,16 +1,13 @@
 -- The locals among the names of terms, and what the copies put.
-use Rattle.std.proofs.Common.{◌≡◌, ◌∙◌, ◌⊎◌, inl, inr, ◌++◌, ℕ, Bool, true, false, refl, sym, ap, subst, List, [], ◌∷◌, Option, Some, None, map, true≢false, if◌then◌else◌}
-use Rattle.std.specs.Str.{bytes_eq}
+use Rattle.std.proofs.Common.{◌≡◌, ◌∙◌, inl, inr, ◌++◌, ℕ, Bool, true, false, refl, sym, ap, subst, List, [], ◌∷◌, Option, Some, None, map, if◌then◌else◌}
 use Rattle.am_term.specs.declared.id.SortId.{SortId}
 use Rattle.am_term.specs.declared.term.Term.{Term}
-use Rattle.am_term.specs.NameLists.{is_among}
-use Rattle.am_exec.specs.Run.{sort_listed}
 use Rattle.am_exec.specs.States.{Store}
 use Rattle.am_plan.specs.Names.{output_for, Named, local_by, locals}
 use Rattle.am_plan.specs.Plan.{names_of, is_set}
-use Rattle.am_plan.proofs.Belonging.{Among, Different, among-map, map-among, among-left, among-right, among-split}
+use Rattle.am_plan.proofs.Belonging.{Among, Different, among-map, map-among, among-left, among-right}
 use Rattle.am_plan.proofs.Holding.{names_in}
-use Rattle.am_plan.proofs.Naming.{Answered, answered-name}
+use Rattle.am_plan.proofs.Naming.{Answered}
 
 module _ (os : List (List ℕ × SortId)) (answer : List Term) where
   pub locals-so : (e : Named) (es : List Named) → Among e (locals os answer es) → Among e es × (output_for e.1 os answer ≡ None)

@@ -1,7 +1,6 @@
 -- The names of the terms that calls make.
-use Rattle.std.proofs.Common.{◌≡◌, ◌∙◌, ◌⊎◌, inl, inr, ◌++◌, ◌&&◌, ◌||◌, ◌==◌, ◌+◌, ◌/◌, ◌%◌, ◌<◌, ◌≤◌, ℕ, zero, suc, arith, Bool, true, false, not, refl, sym, ap, subst, List, [], ◌∷◌, Option, Some, None, map, length, nat_le, slice_index_or, true≢false, if◌then◌else◌}
+use Rattle.std.proofs.Common.{◌≡◌, ◌∙◌, ◌⊎◌, inl, inr, ◌+◌, ◌/◌, ◌%◌, ◌<◌, ◌≤◌, ℕ, suc, arith, Bool, true, false, refl, sym, ap, subst, List, [], ◌∷◌, Option, Some, None, map, length, nat_le, slice_index_or, true≢false, if◌then◌else◌}
 use Rattle.std.proofs.lemmas.Bool.Decides.{nat_tests}
-use Rattle.std.specs.List.{AllByRecursion, list_all}
 use Rattle.am_term.specs.declared.id.SortId.{SortId}
 use Rattle.am_term.specs.declared.term.Term.{Term}
 use Rattle.am_term.specs.Names.{is_digit, is_local_name}
@@ -152,12 +151,11 @@ module _ (os : List (List ℕ × SortId)) (answer : List Term) where
     names-differ k [] h l = tt
     names-differ k (x ∷ xs) h l =
         let next = next_local (output_for x os answer) k in
-        let few = fewer (next + length xs) (k + length (x ∷ xs)) (next-few (output_for x os answer) k (length xs)) l in
-        (
+        let few = fewer (next + length xs) (k + length (x ∷ xs)) (next-few (output_for x os answer) k (length xs)) l in (
           (λ a.
-          let e = map-among (λ (e : Named). e.0) (named_by (output_for x os answer) k x).0 (named_from next os answer xs) a in
-          let there = subst (λ (ys : List Term). Among e.0.1 ys) (named-terms next xs) (among-map (λ (q : Named). q.1) e.0 (named_from next os answer xs) e.1) in
-          first-new k (next + length xs) x e.0 (λ s. h.0 (subst (λ (y : Term). Among y xs) (sym s) there)) few (output_for x os answer) refl (all-named next xs e.0 e.1) e.2),
+              let e = map-among (λ (e : Named). e.0) (named_by (output_for x os answer) k x).0 (named_from next os answer xs) a in
+              let there = subst (λ (ys : List Term). Among e.0.1 ys) (named-terms next xs) (among-map (λ (q : Named). q.1) e.0 (named_from next os answer xs) e.1) in
+              first-new k (next + length xs) x e.0 (λ s. h.0 (subst (λ (y : Term). Among y xs) (sym s) there)) few (output_for x os answer) refl (all-named next xs e.0 e.1) e.2),
           names-differ next xs h.1 few,
         )
       where

@@ -1,11 +1,9 @@
 -- Each different call stands once, and makes terms that no other makes.
-use Rattle.std.proofs.Common.{◌≡◌, ◌∙◌, ◌⊎◌, inl, inr, ◌++◌, ◌&&◌, ◌==◌, ℕ, zero, suc, arith, Bool, true, false, not, cond, refl, sym, ap, subst, List, [], ◌∷◌, Option, Some, None, map, slice_get, true≢false}
+use Rattle.std.proofs.Common.{◌≡◌, ◌∙◌, ◌⊎◌, inl, inr, ◌++◌, ◌==◌, ℕ, zero, suc, arith, Bool, true, false, not, cond, refl, sym, ap, subst, List, [], ◌∷◌, Some, map, slice_get, true≢false}
 use Rattle.std.proofs.lemmas.Bool.Decides.{nat_tests}
-use Rattle.std.proofs.lemmas.List.{append-nil}
 use Rattle.std.specs.List.{AllByRecursion, filter, flat_map}
 use Rattle.std.specs.Str.{bytes_eq}
 use Rattle.am_exec.proofs.Held.{eq_is, eq_same}
-use Rattle.am_term.specs.declared.id.SortId.{SortId}
 use Rattle.am_term.specs.declared.id.SymId.{SymId}
 use Rattle.am_term.specs.declared.term.Term.{Term}
 use Rattle.am_term.specs.declared.term.Term.TheOpen.{Term-F}
@@ -13,10 +11,9 @@ use Rattle.am_term.specs.declared.term.Term.TheViews.{out-Term}
 use Rattle.am_term.specs.declared.term.Term.TheVariants.{App, outs-App}
 use Rattle.am_term.specs.Same.{same_terms}
 use Rattle.am_term.proofs.Alike.{same_terms-refl, same_terms-sound}
-use Rattle.am_term.proofs.Tests.{and_left, and_right, and_both, not_false, true_not, false_not, fails}
+use Rattle.am_term.proofs.Tests.{and_left, and_right, and_both, not_false, true_not, false_not}
 use Rattle.am_clause.specs.Distinct.{distinct}
 use Rattle.am_theory.specs.declared.theory.Routine.{Routine}
-use Rattle.am_theory.specs.declared.theory.FortranFunction.{FortranFunction}
 use Rattle.am_theory.specs.declared.theory.Theory.{Theory}
 use Rattle.am_theory.specs.Facts.{WellFormed}
 use Rattle.am_diagram.specs.declared.diagram.Diagram.{Diagram}
@@ -24,12 +21,12 @@ use Rattle.am_diagram.specs.Canonical.{sorts_in}
 use Rattle.am_plan.specs.declared.call.Callee.{Callee}
 use Rattle.am_plan.specs.declared.call.Callee.TheVariants as callee
 use Rattle.am_plan.specs.declared.call.PlannedCall.{PlannedCall}
-use Rattle.am_plan.specs.Calls.{completed, call_with, same_callee, same_call, asked, calls, outputs_at, value_at, made_by, made}
+use Rattle.am_plan.specs.Calls.{call_with, same_callee, same_call, asked, calls, outputs_at, value_at, made_by, made}
 use Rattle.am_plan.proofs.Belonging.{Among, Different, all-among, among-map, map-among, among-left, among-right, among-split, flat-among, among-flat, different-left, different-right, different-append, different-map}
 use Rattle.am_plan.proofs.Standing.{Available}
 use Rattle.am_plan.proofs.Callees.{Computes, one-callee, outputs-different}
-use Rattle.am_plan.proofs.Running.{CalleeFits, IsReady, AreReady}
-use Rattle.am_plan.proofs.Asked.{IsFine, asks, available-more, all-available, ready-more, terms-ordered}
+use Rattle.am_plan.proofs.Running.{CalleeFits, AreReady}
+use Rattle.am_plan.proofs.Asked.{IsFine, all-available, ready-more, terms-ordered}
 
 -- ---- the test of calls
 number-is : (m n : ℕ) → (m == n) ≡ true → m ≡ n
@@ -113,9 +110,9 @@ pub distinct-names : {A : Type 0} (f : A → List ℕ) (xs : List A) → Differe
 distinct-names {A = A} f [] = tt
 distinct-names {A = A} f (z ∷ zs) = (
   (λ a.
-  let e = map-among f (f z) (filter (λ (q : A). not (bytes_eq (f z) (f q))) (distinct (λ (p q : A). bytes_eq (f p) (f q)) zs)) a in
-  let r = filter-so (λ (q : A). not (bytes_eq (f z) (f q))) e.0 (distinct (λ (p q : A). bytes_eq (f p) (f q)) zs) e.1 in
-  true≢false (sym (subst (λ (n : List ℕ). bytes_eq (f z) n ≡ true) e.2 (eq_same (f z))) ∙ true_not (bytes_eq (f z) (f e.0)) r.1)),
+      let e = map-among f (f z) (filter (λ (q : A). not (bytes_eq (f z) (f q))) (distinct (λ (p q : A). bytes_eq (f p) (f q)) zs)) a in
+      let r = filter-so (λ (q : A). not (bytes_eq (f z) (f q))) e.0 (distinct (λ (p q : A). bytes_eq (f p) (f q)) zs) e.1 in
+      true≢false (sym (subst (λ (n : List ℕ). bytes_eq (f z) n ≡ true) e.2 (eq_same (f z))) ∙ true_not (bytes_eq (f z) (f e.0)) r.1)),
   names-filter f (λ (q : A). not (bytes_eq (f z) (f q))) (distinct (λ (p q : A). bytes_eq (f p) (f q)) zs) (distinct-names f zs),
 )
 
@@ -161,8 +158,8 @@ module _ (t : Theory) (d : Diagram) where
   distinct-ready done (c ∷ cs) r = (
     r.0,
     filter-ready (λ (b : PlannedCall). not (same_call c b)) (done ++ made_by t c) (distinct same_call cs)
-    (λ b no z a. among-right z done (made_by t c) (subst (λ (e : PlannedCall). Among z (made_by t e)) (sym (same_call-is c b (false_not (same_call c b) no))) a))
-    (distinct-ready (done ++ made_by t c) cs r.1),
+        (λ b no z a. among-right z done (made_by t c) (subst (λ (e : PlannedCall). Among z (made_by t e)) (sym (same_call-is c b (false_not (same_call c b) no))) a))
+        (distinct-ready (done ++ made_by t c) cs r.1),
   )
 
   module _ (h : WellFormed t) (answer : List Term) (fine : AllByRecursion (IsFine t (sorts_in d.inputs)) answer) where

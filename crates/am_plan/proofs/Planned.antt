@@ -1,25 +1,23 @@
 -- The plan of an answer gives the answer.
-use Rattle.std.proofs.Common.{◌≡◌, ◌∙◌, ◌⊎◌, inl, inr, ◌++◌, ◌+◌, ◌<◌, ◌≤◌, ℕ, suc, arith, Bool, true, false, refl, sym, ap, subst, List, [], ◌∷◌, Option, Some, None, Ok, cond, map, length, slice_get, is_some, true≢false, append_assoc, if◌then◌else◌}
+use Rattle.std.proofs.Common.{◌≡◌, ◌∙◌, ◌⊎◌, inl, inr, ◌++◌, ◌+◌, ◌<◌, ◌≤◌, ℕ, arith, Bool, true, false, refl, sym, ap, subst, List, [], ◌∷◌, Option, Some, None, Ok, cond, map, length, slice_get, is_some, true≢false, if◌then◌else◌}
 use Rattle.std.proofs.lemmas.List.{append-nil, map-append}
 use Rattle.std.specs.List.{AllByRecursion, flat_map}
 use Rattle.std.specs.Str.{bytes_eq}
 use Rattle.am_term.specs.declared.id.SortId.{SortId}
 use Rattle.am_term.specs.declared.id.SymId.{SymId}
-use Rattle.am_term.specs.declared.kind.SymKind.TheVariants as kind
 use Rattle.am_term.specs.declared.symbol.Symbol.{Symbol}
-use Rattle.am_term.specs.declared.signature.Signature.{Signature}
 use Rattle.am_term.specs.declared.term.Term.{Term}
 use Rattle.am_term.specs.declared.term.Term.TheVariants.{App}
 use Rattle.am_term.specs.Names.{is_local_name}
 use Rattle.am_term.specs.NameLists.{is_among}
 use Rattle.am_term.specs.Sorts.{fits}
-use Rattle.am_term.specs.Sorting.{fits_place, fit_places, result_at, sort_of, sorts_of as sorts_of_terms, sort_of-App}
+use Rattle.am_term.specs.Sorting.{fit_places, result_at, sort_of, sorts_of as sorts_of_terms, sort_of-App}
 use Rattle.am_term.specs.Weight.{nodes}
 use Rattle.am_term.proofs.Forest.{fits-akin}
 use Rattle.am_theory.specs.declared.theory.FortranFunction.{FortranFunction}
 use Rattle.am_theory.specs.declared.theory.Theory.{Theory}
 use Rattle.am_theory.specs.Lookups.{rep_of, result_of, result_sort, function_named}
-use Rattle.am_theory.specs.Facts.{WellFormed as WellFormedTheory, IsConcrete, Stands, IsFunction}
+use Rattle.am_theory.specs.Facts.{WellFormed as WellFormedTheory, IsConcrete, IsFunction}
 use Rattle.am_diagram.specs.declared.diagram.Diagram.{Diagram}
 use Rattle.am_diagram.specs.Canonical.{sorts_in}
 use Rattle.am_diagram.specs.Facts.{WellFormed, IsFree, sorts_of}
@@ -37,14 +35,14 @@ use Rattle.am_plan.specs.declared.call.Callee.TheVariants as callee
 use Rattle.am_plan.specs.declared.call.PlannedCall.{PlannedCall}
 use Rattle.am_plan.specs.Calls.{calls, listed, made_by, made}
 use Rattle.am_plan.specs.Names.{output_for, Named, named_from, named, locals, name_of, local_name}
-use Rattle.am_plan.specs.Plan.{IsPlan, names_of, arguments, statement_of, copies, is_set, function_at, functions_used}
+use Rattle.am_plan.specs.Plan.{IsPlan, names_of, statement_of, copies, is_set, function_at, functions_used}
 use Rattle.am_plan.specs.Answers.{Serves, AllServe, IsAnswerFor}
 use Rattle.am_plan.specs.Laws.{PlanGivesAnswer}
 use Rattle.am_plan.proofs.Belonging.{Among, Different, all-among, among-map, map-among, among-left, among-right, among-split, flat-among, among-flat, different-append}
 use Rattle.am_plan.proofs.Holding.{names_in, is_among-so, among-is, inputs-names}
 use Rattle.am_plan.proofs.Standing.{Available, all-index}
 use Rattle.am_plan.proofs.Calling.{pairs, index-among, function-named}
-use Rattle.am_plan.proofs.Copying.{Copies, place-sort}
+use Rattle.am_plan.proofs.Copying.{place-sort}
 use Rattle.am_plan.proofs.Callees.{Computes, routine-stands}
 use Rattle.am_plan.proofs.Going.{Goes, goes-append, terms-go}
 use Rattle.am_plan.proofs.Running.{CalleeFits, AreReady, after, after-keeps, calls-go, AreCopied, copies-go, AreHeld, ends-held}
@@ -60,7 +58,7 @@ module _ (t : Theory) (d : Diagram) where
   abbrev ins : List SortId
   ins = sorts_in d.inputs
 
-  serve-fine : (os : List (List ℕ × SortId)) (xs : List Term) → AllServe t d os xs → AllByRecursion (IsFine t ins) xs
+  pub serve-fine : (os : List (List ℕ × SortId)) (xs : List Term) → AllServe t d os xs → AllByRecursion (IsFine t ins) xs
   serve-fine [] [] s = tt
   serve-fine [] (x ∷ xs) s = absurd s
   serve-fine (o ∷ os) [] s = absurd s
@@ -160,7 +158,6 @@ module _ (t : Theory) (d : Diagram) (answer : List Term) (u : Subroutine) (h : W
   named-each : (e : Named) → Among e names → IsNamed d.outputs answer 1 (1 + length all_made) e
   named-each e a = all-named d.outputs answer 1 all_made e (subst (λ (es : List Named). Among e es) names-are a)
 
-
   output-no_local : (n : List ℕ) → Among n (names_of d.outputs) → is_local_name n ≡ false
   output-no_local n a = (all-among (IsFree t) n (names_of d.outputs) wd.outputs_named a).not_local
 
@@ -257,8 +254,7 @@ module _ (t : Theory) (d : Diagram) (answer : List Term) (u : Subroutine) (h : W
   all-copied [] (x ∷ xs) s a there = absurd s
   all-copied (o ∷ os) [] s a there = absurd s
   all-copied (o ∷ os) (x ∷ xs) s a there =
-      let here = there o (inl refl) in
-      (
+      let here = there o (inl refl) in (
         (
           record {
             fit = s.0.sorted;

@@ -1,5 +1,5 @@
 -- The run of the statements of calls, of the copies, and its end.
-use Rattle.std.proofs.Common.{◌≡◌, ◌∙◌, ◌⊎◌, inl, inr, ◌++◌, ◌<◌, ℕ, suc, arith, Bool, true, false, refl, sym, ap, subst, List, [], ◌∷◌, Option, Some, None, map, slice_get, sum_by, append_assoc, if◌then◌else◌}
+use Rattle.std.proofs.Common.{◌≡◌, ◌∙◌, inl, inr, ◌++◌, ◌<◌, ℕ, arith, Bool, true, false, refl, sym, ap, subst, List, [], ◌∷◌, Option, Some, map, slice_get, sum_by, append_assoc, if◌then◌else◌}
 use Rattle.std.proofs.lemmas.List.{append-nil, map-append}
 use Rattle.std.specs.List.{AllByRecursion, flat_map}
 use Rattle.am_term.specs.declared.id.SortId.{SortId}
@@ -18,10 +18,10 @@ use Rattle.am_diagram.specs.declared.diagram.Diagram.{Diagram}
 use Rattle.am_diagram.specs.Canonical.{names_of, sorts_in}
 use Rattle.am_fortran.specs.declared.statement.Operand.{Operand}
 use Rattle.am_fortran.specs.declared.statement.Statement.{Statement}
-use Rattle.am_fortran.specs.declared.statement.Statement.TheVariants.{Call, Assign, Apply}
+use Rattle.am_fortran.specs.declared.statement.Statement.TheVariants.{Call, Apply}
 use Rattle.am_fortran.specs.declared.unit.Unit.{Unit as Subroutine}
 use Rattle.am_exec.specs.Lawful.{further}
-use Rattle.am_exec.specs.States.{Store, term_held, inputs_held}
+use Rattle.am_exec.specs.States.{Store, inputs_held}
 use Rattle.am_exec.specs.ItemFaults.{is_target, declared_names, lacks_dummy}
 use Rattle.am_exec.specs.Terms.{with_term, terms_held}
 use Rattle.am_plan.specs.declared.call.Callee.{Callee}
@@ -33,7 +33,7 @@ use Rattle.am_plan.specs.Plan.{operand_for, routine_call, function_call, first_n
 use Rattle.am_plan.proofs.Belonging.{Among, Different, among-all, all-among, among-map, among-left, among-right, different-left, different-right, different-apart}
 use Rattle.am_plan.proofs.Holding.{names_in, held-there, inputs-among}
 use Rattle.am_plan.proofs.Standing.{Available, StandsFor, operand-stands}
-use Rattle.am_plan.proofs.Calling.{Puts, pairs, targets_of, pairs-names, routine-puts, function-puts}
+use Rattle.am_plan.proofs.Calling.{pairs, targets_of, pairs-names, routine-puts, function-puts}
 use Rattle.am_plan.proofs.Copying.{Copies, copy-puts}
 use Rattle.am_plan.proofs.Locals.{copied}
 use Rattle.am_plan.proofs.Going.{Goes, goes-append, goes-one}
@@ -112,9 +112,9 @@ module _ (t : Theory) (h : WellFormed t) (d : Diagram) (u : Subroutine) (lacks :
       routine-goes targets differ =
           let named : Different (names_in (after done) ++ map name made) = subst (λ (ns : List (List ℕ)). Different ns) (ap (λ (ys : List Term). names_in (after done ++ pairs name ys)) made-is ∙ names-more (after done) made) differ in
           let puts = routine-puts name t h d u lacks op (after done) args (standing (after done) done args (different-left (names_in (after done)) (map name made) named) (after-keeps done) available) small k r at fit
-                (λ n a b. different-apart n (names_in (after done)) (map name made) named b a)
-                (different-right (names_in (after done)) (map name made) named)
-                (among-all (λ (f : SymId). is_target t d u (Some (name (App f args))) (result_sort t.sig f) ≡ true) r.outputs (λ f a. targets f args (subst (λ (ys : List Term). Among (App f args) ys) (sym made-is) (among-map (λ (g : SymId). App g args) f r.outputs a)))) in
+          (λ n a b. different-apart n (names_in (after done)) (map name made) named b a)
+          (different-right (names_in (after done)) (map name made) named)
+          (among-all (λ (f : SymId). is_target t d u (Some (name (App f args))) (result_sort t.sig f) ≡ true) r.outputs (λ f a. targets f args (subst (λ (ys : List Term). Among (App f args) ys) (sym made-is) (among-map (λ (g : SymId). App g args) f r.outputs a)))) in
           subst (λ (ss : List Statement). Goes t d u (after done) ss (after done ++ pairs name (made_by t routine))) (sym statement)
           (subst (λ (ys : List Term). Goes t d u (after done) (Call r.name (map op args ++ targets_of name made) ∷ []) (after done ++ pairs name ys)) (sym made-is)
           (goes-one t d u (after done) (after done ++ pairs name made) (Call r.name (map op args ++ targets_of name made)) puts.passes puts.put_is))
@@ -137,9 +137,9 @@ module _ (t : Theory) (h : WellFormed t) (d : Diagram) (u : Subroutine) (lacks :
       function-goes targets functions differ =
           let named : Different (names_in (after done) ++ name value ∷ []) = subst (λ (ns : List (List ℕ)). Different ns) (ap (λ (ys : List Term). names_in (after done ++ pairs name ys)) value-is ∙ names-more (after done) (value ∷ [])) differ in
           let puts = function-puts name t h d u lacks op (after done) args (standing (after done) done args (different-left (names_in (after done)) (name value ∷ []) named) (after-keeps done) available) small k g at fit
-                (λ a. different-apart (name value) (names_in (after done)) (name value ∷ []) named a (inl refl))
-                (functions function k g (inl refl) refl at)
-                (targets g.symbol args (subst (λ (ys : List Term). Among value ys) (sym value-is) (inl refl))) in
+          (λ a. different-apart (name value) (names_in (after done)) (name value ∷ []) named a (inl refl))
+          (functions function k g (inl refl) refl at)
+          (targets g.symbol args (subst (λ (ys : List Term). Among value ys) (sym value-is) (inl refl))) in
           subst (λ (ss : List Statement). Goes t d u (after done) ss (after done ++ pairs name (made_by t function))) (sym application)
           (subst (λ (ys : List Term). Goes t d u (after done) (Apply (name value) g.name (map op args) ∷ []) (after done ++ pairs name ys)) (sym value-is)
           (goes-one t d u (after done) (after done ++ pairs name (value ∷ [])) (Apply (name value) g.name (map op args)) puts.passes puts.put_is))

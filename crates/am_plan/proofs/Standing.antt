@@ -1,8 +1,7 @@
 -- What the operands of terms stand for.
-use Rattle.std.proofs.Common.{◌≡◌, ◌∙◌, ◌⊎◌, inl, inr, ◌++◌, ◌||◌, ◌&&◌, ◌==◌, ℕ, zero, suc, Bool, true, false, not, refl, sym, ap, subst, List, [], ◌∷◌, Option, Some, None, cond, map, find, option_map, slice_get, slice_index_or, is_some, true≢false, if◌then◌else◌}
+use Rattle.std.proofs.Common.{◌≡◌, ◌∙◌, ◌⊎◌, inl, inr, ◌++◌, ◌&&◌, ℕ, zero, suc, Bool, true, false, refl, sym, ap, subst, List, [], ◌∷◌, Option, Some, None, cond, map, find, option_map, slice_get, slice_index_or, is_some, true≢false, if◌then◌else◌}
 use Rattle.std.specs.List.{AllByRecursion}
 use Rattle.std.proofs.lemmas.Bool.Decides.{Decides-int_eq}
-use Rattle.std.specs.Str.{bytes_eq}
 use Rattle.am_term.specs.declared.id.SortId.{SortId}
 use Rattle.am_term.specs.declared.id.SymId.{SymId}
 use Rattle.am_term.specs.declared.kind.SymKind.TheVariants as kind
@@ -24,7 +23,7 @@ use Rattle.am_diagram.specs.declared.diagram.Diagram.{Diagram}
 use Rattle.am_fortran.specs.declared.statement.Operand.{Operand}
 use Rattle.am_fortran.specs.declared.statement.Operand.TheVariants as operand
 use Rattle.am_exec.specs.Literals.{writes, sort_fits, literal_at}
-use Rattle.am_exec.specs.States.{Store, term_held, is_held, literal_term, operand_term, listed_term, operand_terms}
+use Rattle.am_exec.specs.States.{Store, term_held, literal_term, operand_term, listed_term, operand_terms}
 use Rattle.am_exec.specs.Effects.{term_sort}
 use Rattle.am_exec.specs.ItemFaults.{unset_name, or_later, first_unset, fits_operand, fit_operands}
 use Rattle.am_exec.proofs.Held.{eq_same}
@@ -100,15 +99,18 @@ module _ (t : Theory) (h : WellFormed t) (ins : List SortId) where
   given : (l : LiteralDecl) (s : SymbolStands t l.symbol kind.Literal []) → result_sort t.sig l.symbol ≡ Some s.sort
   given l s = ap result_of s.there ∙ s.result
 
+  found-symbol : (p : LiteralDecl → Bool) (l m : LiteralDecl) → find p t.literals ≡ Some m → l ≡ m → option_map (λ (x : LiteralDecl). x.symbol) (find p t.literals) ≡ Some l.symbol
+  found-symbol p l m e is = ap (option_map (λ (x : LiteralDecl). x.symbol)) e ∙ ap (λ (x : LiteralDecl). Some x.symbol) (sym is)
+
   -- the value of a literal stands for its symbol wherever the symbol fits
   pub literal-at : (index : ℕ) (l : LiteralDecl) (place : SortId) → slice_get t.literals index ≡ Some l → term_fits t.sig ins (App l.symbol []) place ≡ true → literal_at t place (written_value l.value) ≡ Some l.symbol
   literal-at index l place at e =
       let stands = (all-index (IsLiteral t) t.literals index l h.literals at).stands in
       let fit : fits t.sig stands.sort place ≡ true = sym (ap (λ (s : Option SortId). fits_place t.sig s place) (literal-sorted l stands)) ∙ e in
       let first = first-passing (λ (m : LiteralDecl). writes (written_value l.value) m.value && sort_fits t (result_sort t.sig m.symbol) place) t.literals index l at
-            (and_both (writes (written_value l.value) l.value) (sort_fits t (result_sort t.sig l.symbol) place)
-            (writes-written l.value l.value ∙ same-value l.value)
-            (ap (λ (s : Option SortId). sort_fits t s place) (given l stands) ∙ fit)) in
+      (and_both (writes (written_value l.value) l.value) (sort_fits t (result_sort t.sig l.symbol) place)
+      (writes-written l.value l.value ∙ same-value l.value)
+      (ap (λ (s : Option SortId). sort_fits t s place) (given l stands) ∙ fit)) in
       let m = first.member in
       let others = (all-index (IsLiteral t) t.literals first.index m h.literals first.there).stands in
       let other_fit : fits t.sig others.sort place ≡ true = sym (ap (λ (s : Option SortId). sort_fits t s place) (given m others)) ∙ and_right (writes (written_value l.value) m.value) (sort_fits t (result_sort t.sig m.symbol) place) first.passes in
@@ -116,7 +118,7 @@ module _ (t : Theory) (h : WellFormed t) (ins : List SortId) where
       let one : index ≡ first.index = h.one_literal index first.index l m at first.there stands others (sym (writes-written l.value m.value) ∙ and_left (writes (written_value l.value) m.value) (sort_fits t (result_sort t.sig m.symbol) place) first.passes) near in
       let same : Some l ≡ Some m = sym at ∙ ap (slice_get t.literals) one ∙ first.there in
       let is : l ≡ m = cc in
-      ap (option_map (λ (x : LiteralDecl). x.symbol)) first.found ∙ ap (λ (x : LiteralDecl). Some x.symbol) (sym is)
+      found-symbol (λ (n : LiteralDecl). writes (written_value l.value) n.value && sort_fits t (result_sort t.sig n.symbol) place) l m first.found is
 
   literal-set : (store : Store) (v : LitValue) → unset_name store (written_value v) ≡ None
   literal-set store (value.Int z) = refl
