@@ -1,0 +1,16 @@
+pub mod Asked
+pub mod Belonging
+pub mod Callees
+pub mod Calling
+pub mod Copying
+pub mod Counted
+pub mod Declaring
+pub mod Going
+pub mod Holding
+pub mod Locals
+pub mod Naming
+pub mod Needed
+pub mod Once
+pub mod Planned
+pub mod Running
+pub mod Standing
