@@ -6,5 +6,11 @@
 #![tactic(auto)]
 
 mod call;
+mod calling;
+mod lookups;
+mod naming;
+mod stating;
 
 pub use call::{Callee, PlannedCall};
+pub use calling::{callee_of, calls};
+pub use naming::{local_name, made, made_by, name_of, named, output_for};
