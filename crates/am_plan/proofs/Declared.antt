@@ -36,15 +36,15 @@ module _ {X : Type 0} (like : X → X → Bool) (back : (x y : X) → like x y �
 
   among_like : (x y : X) → like x y ≡ true → (seen : List X) → among like x seen ≡ true → among like y seen ≡ true
   among_like x y e [] h = h
-  among_like x y e (z ∷ seen) h = by_test (like x z) refl
+  among_like x y e (z ∷ seen) h = by_test (like x z) refl (among_like x y e seen)
     where
-      by_test : (b : Bool) → like x z ≡ b → (like y z || among like y seen) ≡ true
-      by_test true f = rw (through x y z e f) refl
-      by_test false f = either (like y z) (among_like x y e seen (rw f at h))
-        where
-          either : (b : Bool) → among like y seen ≡ true → (b || among like y seen) ≡ true
-          either true g = refl
-          either false g = g
+      either : (b : Bool) → among like y seen ≡ true → (b || among like y seen) ≡ true
+      either true g = refl
+      either false g = g
+
+      by_test : (b : Bool) → like x z ≡ b → (among like x seen ≡ true → among like y seen ≡ true) → (like y z || among like y seen) ≡ true
+      by_test true f later = rw (through x y z e f) refl
+      by_test false f later = either (like y z) (later (rw f at h))
 
   old : (seen : List X) (x : X) → among like x seen ≡ true → (y : X) → new_to seen y ≡ (new_to seen y && not (like x y))
   old seen x h y = same_tests (new_to seen y) (new_to seen y && not (like x y))

@@ -1,2 +1,5 @@
 pub mod Asking
 pub mod Operands
+pub mod Declared
+pub mod Belonging
+pub mod Reached

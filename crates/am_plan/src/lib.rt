@@ -7,6 +7,7 @@
 
 mod call;
 mod calling;
+mod declaring;
 mod lookups;
 mod naming;
 mod stating;
