@@ -1,6 +1,6 @@
 -- The terms that an answer goes through: each is well sorted and computable, and has its arguments among
 -- them; and each call is of one of them.
-use Rattle.std.proofs.Common.{◌≡◌, ◌∙◌, ◌⊎◌, inl, inr, ◌&&◌, ◌||◌, ◌==◌, ◌+◌, ◌++◌, ℕ, zero, suc, Bool, true, false, not, cond, refl, sym, ap, subst, arith, Option, Some, None, List, [], ◌∷◌, length, map, slice_get, is_some, find, option_map, true≢false, if◌then◌else◌}
+use Rattle.std.proofs.Common.{◌≡◌, ◌∙◌, ◌⊎◌, inl, inr, ◌&&◌, ◌||◌, ◌==◌, ◌+◌, ◌<◌, ◌++◌, ℕ, zero, suc, Bool, true, false, not, cond, refl, sym, ap, subst, arith, Option, Some, None, List, [], ◌∷◌, length, map, slice_get, slice_index_or, is_some, find, option_map, true≢false, if◌then◌else◌}
 use Rattle.std.specs.List.{AllByRecursion, Contains, flat_map, list_all, list_any}
 use Rattle.std.proofs.lemmas.Bool.Decides.{nat_tests}
 use Rattle.am_term.specs.declared.id.SortId.{SortId}
@@ -17,7 +17,7 @@ use Rattle.am_term.specs.Place.{args_of, args_of-Var, args_of-In, args_of-App}
 use Rattle.am_term.specs.Same.{same_term}
 use Rattle.am_term.specs.Sorting.{fits_place, fit_places, result_at, sort_of, sorts_of as sorts_of_terms, sort_of-App, term_fits}
 use Rattle.am_term.specs.Symbols.{is_computable}
-use Rattle.am_term.proofs.Tests.{and_left, and_right, or_cases}
+use Rattle.am_term.proofs.Tests.{and_left, and_right, or_cases, or_left, or_right}
 use Rattle.am_clause.specs.Distinct.{among, distinct}
 use Rattle.am_clause.proofs.Members.{any-distinct}
 use Rattle.am_theory.specs.declared.theory.Routine.{Routine}
@@ -317,3 +317,113 @@ callee-at t f c e = by_routine (routine_from 0 f t.routines) refl e
     by_routine (Some x) h i =
         let j : Some x ≡ Some c = sym (ap (λ (o : Option Callee). or_else o (function_from 0 f t.functions)) h) ∙ i in
         inl (routine-at f 0 t.routines c (h ∙ j))
+
+-- ---- what a call makes
+pub made-has : (t : Theory) (f : SymId) (args : List Term) (c : Callee) → callee_of t f ≡ Some c → Among (App f args) (made_at t args c)
+made-has t f args c e = by_kind (callee-at t f c e)
+  where
+    by_kind : RoutineAt f 0 t.routines c ⊎ FunctionAt f 0 t.functions c → Among (App f args) (made_at t args c)
+    by_kind (inl r) =
+        let is : c ≡ callee.Routine r.index = r.is ∙ ap callee.Routine (omega arith) in
+        subst (λ (k : Callee). Among (App f args) (made_at t args k)) (sym is)
+        (subst (λ (o : Option Routine). Among (App f args) (outputs_at args o)) (sym r.there) (among-map (λ (g : SymId). App g args) f r.routine.outputs r.has))
+    by_kind (inr g) =
+        let is : c ≡ callee.Function g.index = g.is ∙ ap callee.Function (omega arith) in
+        subst (λ (k : Callee). Among (App f args) (made_at t args k)) (sym is)
+        (subst (λ (o : Option FortranFunction). Among (App f args) (value_at args o)) (sym g.there) (inl (ap (λ (s : SymId). App s args) g.has)))
+
+-- ---- a symbol that a program can compute is a literal's, or there is something to call
+contained : {A : Type 0} (x : A) (xs : List A) → Contains xs x → Among x xs
+contained {A = A} x xs c = at xs c.0 c.1 c.2
+  where
+    at : (ys : List A) (k : ℕ) → k < length ys → slice_index_or ys k x ≡ x → Among x ys
+    at [] k l e = absurd (omega arith)
+    at (y ∷ ys) zero l e = inl (sym e)
+    at (y ∷ ys) (suc k) l e = inr (at ys k (omega arith) e)
+
+among-has : (f g : SymId) (gs : List SymId) → f.0 ≡ g.0 → Among g gs → has_symbol f gs ≡ true
+among-has f g [] e m = absurd m
+among-has f g (x ∷ xs) e (inl is) = or_left (f.0 == x.0) (has_symbol f xs) (symbol-same f x (e ∙ ap (λ (s : SymId). s.0) is))
+among-has f g (x ∷ xs) e (inr m) = or_right (f.0 == x.0) (has_symbol f xs) (among-has f g xs e m)
+
+routine-some : (f : SymId) (k : ℕ) (r : Routine) (rs : List Routine) → Among r rs → has_symbol f r.outputs ≡ true → is_some (routine_from k f rs) ≡ true
+routine-some f k r [] m h = absurd m
+routine-some f k r (x ∷ xs) (inl is) h = ap (λ (b : Bool). is_some (cond b (Some (callee.Routine k)) (routine_from (k + 1) f xs))) (subst (λ (y : Routine). has_symbol f y.outputs ≡ true) is h)
+routine-some f k r (x ∷ xs) (inr m) h = either (has_symbol f x.outputs) (routine-some f (k + 1) r xs m h)
+  where
+    either : (b : Bool) → is_some (routine_from (k + 1) f xs) ≡ true → is_some (cond b (Some (callee.Routine k)) (routine_from (k + 1) f xs)) ≡ true
+    either true g = refl
+    either false g = g
+
+function-some : (f : SymId) (k : ℕ) (g : FortranFunction) (gs : List FortranFunction) → Among g gs → f.0 ≡ g.symbol.0 → is_some (function_from k f gs) ≡ true
+function-some f k g [] m h = absurd m
+function-some f k g (x ∷ xs) (inl is) h = ap (λ (b : Bool). is_some (cond b (Some (callee.Function k)) (function_from (k + 1) f xs))) (symbol-same f x.symbol (h ∙ ap (λ (y : FortranFunction). y.symbol.0) is))
+function-some f k g (x ∷ xs) (inr m) h = either (f.0 == x.symbol.0) (function-some f (k + 1) g xs m h)
+  where
+    either : (b : Bool) → is_some (function_from (k + 1) f xs) ≡ true → is_some (cond b (Some (callee.Function k)) (function_from (k + 1) f xs)) ≡ true
+    either true g = refl
+    either false g = g
+
+some-left : {A : Type 0} (x y : Option A) → is_some x ≡ true → is_some (or_else x y) ≡ true
+some-left {A = A} None y e = absurd (true≢false (sym e))
+some-left {A = A} (Some z) y e = refl
+
+some-right : {A : Type 0} (x y : Option A) → is_some y ≡ true → is_some (or_else x y) ≡ true
+some-right {A = A} None y e = e
+some-right {A = A} (Some z) y e = refl
+
+found-there : (f : SymId) (l : LiteralDecl) (ls : List LiteralDecl) → Among l ls → l.symbol.0 ≡ f.0 → is_some (find (λ (x : LiteralDecl). x.symbol.0 == f.0) ls) ≡ true
+found-there f l [] m e = absurd m
+found-there f l (x ∷ xs) (inl is) e = ap (λ (b : Bool). is_some (cond b (Some x) (find (λ (y : LiteralDecl). y.symbol.0 == f.0) xs))) (symbol-same x.symbol f (sym (ap (λ (y : LiteralDecl). y.symbol.0) is) ∙ e))
+found-there f l (x ∷ xs) (inr m) e = either (x.symbol.0 == f.0) (found-there f l xs m e)
+  where
+    either : (b : Bool) → is_some (find (λ (y : LiteralDecl). y.symbol.0 == f.0) xs) ≡ true → is_some (cond b (Some x) (find (λ (y : LiteralDecl). y.symbol.0 == f.0) xs)) ≡ true
+    either true g = refl
+    either false g = g
+
+some-value : {A : Type 0} (o : Option A) → is_some o ≡ true → (x : A) × (o ≡ Some x)
+some-value {A = A} None e = absurd (true≢false (sym e))
+some-value {A = A} (Some x) e = (x, refl)
+
+module _ (t : Theory) (h : WellFormed t) (f : SymId) (y : Symbol) (there : slice_get t.sig.symbols f.0 ≡ Some y) (no_literal : literal_of t f ≡ None) where
+  by_output : y.kind ≡ kind.Output → is_some (callee_of t f) ≡ true
+  unfolding callee_of
+  by_output e =
+      let o = h.outputs f.0 y there e in
+      let number : SymId = record { 0 = f.0 } in
+      some-left (routine_from 0 f t.routines) (function_from 0 f t.functions)
+      (routine-some f 0 o.0 t.routines (contained o.0 t.routines o.1) (among-has f number o.0.outputs refl (contained number o.0.outputs o.2)))
+
+  by_value : y.kind ≡ kind.Value → is_some (callee_of t f) ≡ true
+  unfolding callee_of
+  by_value e =
+      let v = h.values f.0 y there e in
+      some-right (routine_from 0 f t.routines) (function_from 0 f t.functions)
+      (function-some f 0 v.0 t.functions (contained v.0 t.functions v.1) (sym v.2))
+
+  by_literal : y.kind ≡ kind.Literal → is_some (callee_of t f) ≡ true
+  unfolding literal_of
+  by_literal e =
+      let l = h.constants f.0 y there e in
+      absurd (true≢false (sym (found-there f l.0 t.literals (contained l.0 t.literals l.1) l.2) ∙ ap is_some no_literal))
+
+  by_kind : (k : SymKind) → y.kind ≡ k → is_computable k ≡ true → is_some (callee_of t f) ≡ true
+  by_kind kind.Function e c = absurd (true≢false (sym c))
+  by_kind kind.Relation e c = absurd (true≢false (sym c))
+  by_kind kind.Literal e c = by_literal e
+  by_kind kind.Output e c = by_output e
+  by_kind kind.Value e c = by_value e
+
+  pub callee-there : is_computable y.kind ≡ true → (c : Callee) × (callee_of t f ≡ Some c)
+  callee-there e = some-value (callee_of t f) (by_kind y.kind refl e)
+
+-- what is gone through and is no literal is made
+pub made-there : (t : Theory) (ins : List SortId) (answer : List Term) (f : SymId) (args : List Term) → WellFormed t → Among (App f args) (flat_map completed answer) → Good t ins (App f args) → literal_of t f ≡ None
+    → Among (App f args) (made t answer)
+made-there t ins answer f args h m g no_literal =
+    let a = applied t ins f args g in
+    let c = callee-there t h f a.symbol a.there no_literal a.computable in
+    let call = call_with args c.0 in
+    let own_call : Among call (own t (App f args)) = subst (λ (o : Option PlannedCall). Among call (listed o)) (sym (call_of-App t f args ∙ ap (option_map (call_with args)) c.1)) (inl refl) in
+    let in_asked : Among call (asked t answer) = among-flat (own t) (App f args) call (flat_map completed answer) m own_call in
+    among-flat (made_by t) call (App f args) (calls t answer) (asked-called t answer call in_asked) (made-has t f args c.0 c.1)
