@@ -3,3 +3,6 @@ pub mod Operands
 pub mod Declared
 pub mod Belonging
 pub mod Reached
+pub mod Kept
+pub mod Planned
+pub mod Keeping

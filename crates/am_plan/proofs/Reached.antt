@@ -74,9 +74,10 @@ module _ (t : Theory) (ins : List SortId) where
   good-args (x ∷ xs) (p ∷ ps) e r =
       let one = fits_place t.sig (sort_of t.sig ins x) p in
       let rest = fit_places t.sig (sorts_of_terms t.sig ins xs) ps in
-      let ready = list_all (λ b. b) (map (is_ready t.sig) xs) in
-      (record { sorted = place-some t.sig (sort_of t.sig ins x) p (and_left one rest e); ready = and_left (is_ready t.sig x) ready r },
-      good-args xs ps (and_right one rest e) (and_right (is_ready t.sig x) ready r))
+      let ready = list_all (λ b. b) (map (is_ready t.sig) xs) in (
+        record { sorted = place-some t.sig (sort_of t.sig ins x) p (and_left one rest e); ready = and_left (is_ready t.sig x) ready r },
+        good-args xs ps (and_right one rest e) (and_right (is_ready t.sig x) ready r),
+      )
 
   result-fits : (y : Symbol) (b : Bool) → is_some (if b then y.result else None) ≡ true → b ≡ true
   result-fits y true e = refl
@@ -100,7 +101,7 @@ module _ (t : Theory) (ins : List SortId) where
             good = good-args args y.args e (and_right (is_computable_symbol (slice_get t.sig.symbols f.0)) (list_all (λ b. b) (map (is_ready t.sig) args)) r);
           }
 
-  not-ready : (n : ℕ) (s : SortId) → Good t ins (Var n s) → ⊥
+  pub not-ready : (n : ℕ) (s : SortId) → Good t ins (Var n s) → ⊥
   not-ready n s g = true≢false (sym g.ready ∙ ready-Var t.sig n s)
 
 -- ---- terms in terms
@@ -118,7 +119,7 @@ completed-cases z x m = by_side (among-split z (terms_below x) (x ∷ []) m)
 pub completed-self : (x : Term) → Among x (completed x)
 completed-self x = among-right x (terms_below x) (x ∷ []) (inl refl)
 
-self-among : (a : Term) (xs : List Term) → Among a xs → Among a (flat_map completed xs)
+pub self-among : (a : Term) (xs : List Term) → Among a xs → Among a (flat_map completed xs)
 self-among a xs m = among-flat completed a a xs m (completed-self a)
 
 none-below : {P : Type 0} (z x : Term) → terms_below x ≡ [] → Among z (terms_below x) → P
@@ -402,7 +403,6 @@ module _ (t : Theory) (h : WellFormed t) (f : SymId) (y : Symbol) (there : slice
       (function-some f 0 v.0 t.functions (contained v.0 t.functions v.1) (sym v.2))
 
   by_literal : y.kind ≡ kind.Literal → is_some (callee_of t f) ≡ true
-  unfolding literal_of
   by_literal e =
       let l = h.constants f.0 y there e in
       absurd (true≢false (sym (found-there f l.0 t.literals (contained l.0 t.literals l.1) l.2) ∙ ap is_some no_literal))

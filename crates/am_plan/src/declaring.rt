@@ -32,12 +32,7 @@ pub fn push_dummies(
     Ok(())
 }
 
-fn dummy_decl(
-    alloc: Global,
-    theory: &Theory,
-    name: &Name,
-    sort: SortId,
-) -> Result<Decl, NoMemory>
+fn dummy_decl(alloc: Global, theory: &Theory, name: &Name, sort: SortId) -> Result<Decl, NoMemory>
     ensures { IfOk result (λ e. e ≡ dummy_declaration theory.now (name.now, sort)) }
 {
     let ty = dummy_type(rep_of_sort(theory, sort));
@@ -69,12 +64,7 @@ pub fn push_locals(
 
 // A local has the type of its term's sort.
 #[tactic(auto, using(crate::proofs::Declared::declaring))]
-fn local_decl(
-    alloc: Global,
-    theory: &Theory,
-    name: &Name,
-    term: &Term,
-) -> Result<Decl, NoMemory>
+fn local_decl(alloc: Global, theory: &Theory, name: &Name, term: &Term) -> Result<Decl, NoMemory>
     ensures { IfOk result (λ e. e ≡ local_declaration theory.now (name.now, term.now)) }
 {
     let rep = match term {

@@ -10,8 +10,10 @@ mod calling;
 mod declaring;
 mod lookups;
 mod naming;
+mod planning;
 mod stating;
 
 pub use call::{Callee, PlannedCall};
 pub use calling::{callee_of, calls};
 pub use naming::{local_name, made, made_by, name_of, named, output_for};
+pub use planning::plan;

@@ -12,11 +12,7 @@ use sqlite_items::Items;
 use std::alloc::Global;
 
 /// The terms that a call makes: a routine's outputs, or the value of a function, at the inputs' terms.
-pub fn made_by(
-    alloc: Global,
-    theory: &Theory,
-    call: &PlannedCall,
-) -> Result<Items<Term>, NoMemory>
+pub fn made_by(alloc: Global, theory: &Theory, call: &PlannedCall) -> Result<Items<Term>, NoMemory>
     ensures { IfOk result (λ ts. ts ≡ terms_of_call theory.now call.now) }
 {
     match call.callee {
@@ -54,11 +50,7 @@ fn value_at(alloc: Global, args: &[Term], f: SymId) -> Result<Items<Term>, NoMem
 }
 
 /// The terms that all calls make, in order.
-pub fn made(
-    alloc: Global,
-    theory: &Theory,
-    calls: &[PlannedCall],
-) -> Result<Items<Term>, NoMemory>
+pub fn made(alloc: Global, theory: &Theory, calls: &[PlannedCall]) -> Result<Items<Term>, NoMemory>
     ensures { IfOk result (λ ts. ts ≡ flat_map (terms_of_call theory.now) calls.now) }
 {
     let mut made = Items::new(alloc);

@@ -122,7 +122,9 @@ pub fn statement_of(
             None => Ok(None),
         },
         Callee::Function(k) => match theory.functions.get(k) {
-            Some(function) => Ok(Some(function_call(alloc, theory, diagram, names, call, function)?)),
+            Some(function) => Ok(Some(function_call(
+                alloc, theory, diagram, names, call, function,
+            )?)),
             None => Ok(None),
         },
     }
