@@ -1,22 +1,21 @@
 -- What the terms of an answer ask for, term by term, and calls that are noted once.
-use Rattle.std.proofs.Common.{◌≡◌, ◌∙◌, ◌&&◌, ◌||◌, ◌==◌, ◌+◌, ◌<◌, ℕ, Bool, true, false, not, refl, sym, ap, arith, Option, Some, None, List, [], ◌∷◌, ◌++◌, length, take, get_or, map, option_map}
+use Rattle.std.proofs.Common.{◌≡◌, ◌∙◌, ◌==◌, ◌+◌, ◌<◌, ℕ, true, false, refl, ap, arith, None, List, [], ◌∷◌, ◌++◌, length, take, get_or, option_map}
 use Rattle.std.specs.List.{flat_map}
 use Rattle.std.proofs.lemmas.Grind.{common_steps}
 use Rattle.std.proofs.lemmas.Bool.Decides.{nat_tests}
-use Rattle.std.proofs.lemmas.List.{take_more, append-nil, append_assoc}
+use Rattle.std.proofs.lemmas.List.{take_more, append-nil}
 use Rattle.std.proofs.lemmas.List.Concat.{flat_map-append}
 use Rattle.std.proofs.lemmas.List.Folds.{flat_map-map}
 use Rattle.am_term.specs.declared.id.SortId.{SortId}
 use Rattle.am_term.specs.declared.id.SymId.{SymId}
 use Rattle.am_term.specs.declared.term.Term.{Term}
-use Rattle.am_term.specs.declared.term.Term.TheOpen.{Term-F}
 use Rattle.am_term.specs.declared.term.Term.TheViews.{out-Term, the_lemmas}
 use Rattle.am_term.specs.declared.term.Term.TheVariants.{Var, In, App, outs-Var, outs-In, outs-App}
 use Rattle.am_term.specs.Fold.{para-Var, para-In, para-App}
-use Rattle.am_term.specs.Same.{same_term, same_terms}
+use Rattle.am_term.specs.Same.{same_terms}
 use Rattle.am_term.proofs.Alike.{same_terms-refl, same_terms-sound}
 use Rattle.am_term.proofs.Tests.{and_left, and_right, and_both}
-use Rattle.am_clause.specs.Distinct.{among, distinct, with_new}
+use Rattle.am_clause.specs.Distinct.{among, with_new}
 use Rattle.am_clause.proofs.Firsts.{with_new-none, with_new-append, with_new-old, with_new-new, with_new-distinct}
 use Rattle.am_theory.specs.declared.theory.Theory.{Theory}
 use Rattle.am_plan.specs.declared.call.Callee.{Callee}

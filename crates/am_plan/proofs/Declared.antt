@@ -1,5 +1,5 @@
 -- Lists without repetitions under a likeness, made one member at a time; and what is declared.
-use Rattle.std.proofs.Common.{◌≡◌, ◌∙◌, ◌&&◌, ◌||◌, ◌+◌, ◌<◌, ℕ, Bool, true, false, not, cond, refl, sym, ap, subst, Option, Some, None, List, [], ◌∷◌, ◌++◌, length, take, get_or, map, if◌then◌else◌}
+use Rattle.std.proofs.Common.{◌≡◌, ◌∙◌, ◌&&◌, ◌||◌, ◌+◌, ◌<◌, ℕ, Bool, true, false, not, refl, sym, ap, subst, Some, None, List, [], ◌∷◌, ◌++◌, length, take, get_or, map, if◌then◌else◌}
 use Rattle.std.specs.List.{filter, list_any, flat_map}
 use Rattle.std.specs.Str.{bytes_eq}
 use Rattle.std.proofs.lemmas.Grind.{common_steps}
@@ -10,7 +10,6 @@ use Rattle.std.proofs.lemmas.List.Folds.{list_any-append}
 use Rattle.am_term.specs.declared.id.SortId.{SortId}
 use Rattle.am_term.specs.declared.id.SymId.{SymId}
 use Rattle.am_term.specs.declared.term.Term.{Term}
-use Rattle.am_term.specs.declared.term.Term.TheOpen.{Term-F}
 use Rattle.am_term.specs.declared.term.Term.TheViews.{out-Term, the_lemmas}
 use Rattle.am_term.specs.declared.term.Term.TheVariants.{Var, In, App, outs-Var, outs-In, outs-App}
 use Rattle.am_term.specs.NameLists.{is_among}
@@ -22,8 +21,7 @@ use Rattle.am_fortran.specs.declared.statement.Decl.{Decl}
 use Rattle.am_theory.specs.declared.theory.FortranFunction.{FortranFunction}
 use Rattle.am_theory.specs.declared.theory.Theory.{Theory}
 use Rattle.am_plan.specs.declared.call.PlannedCall.{PlannedCall}
-use Rattle.am_plan.specs.Names.{Named}
-use Rattle.am_plan.specs.Plan.{head_of, rep_of_head, local_decl, function_at, same_function, functions_used, function_decl}
+use Rattle.am_plan.specs.Plan.{head_of, function_at, same_function, functions_used, function_decl}
 
 -- ---- lists without repetitions under a likeness
 module _ {X : Type 0} (like : X → X → Bool) (back : (x y : X) → like x y ≡ true → like y x ≡ true) (through : (x y z : X) → like x y ≡ true → like x z ≡ true → like y z ≡ true) where

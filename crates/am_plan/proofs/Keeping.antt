@@ -1,5 +1,5 @@
 -- The parts of the unit of an answer are what a unit keeps.
-use Rattle.std.proofs.Common.{◌≡◌, ◌∙◌, ◌⊎◌, inl, inr, ◌&&◌, ◌==◌, ◌+◌, ◌≤◌, ◌++◌, ℕ, zero, suc, Bool, true, false, not, cond, refl, sym, ap, subst, arith, Option, Some, None, List, [], ◌∷◌, length, map, slice_get, slice_index_or, is_some, find, nat_le, true≢false, if◌then◌else◌}
+use Rattle.std.proofs.Common.{◌≡◌, ◌∙◌, ◌⊎◌, inl, inr, ◌&&◌, ◌==◌, ◌+◌, ◌≤◌, ◌++◌, ℕ, zero, suc, Bool, true, false, refl, sym, ap, subst, arith, Option, Some, None, List, [], ◌∷◌, length, map, slice_get, is_some, nat_le, true≢false, if◌then◌else◌}
 use Rattle.std.specs.List.{AllByRecursion, flat_map, list_all}
 use Rattle.std.proofs.lemmas.Bool.Decides.{nat_tests}
 use Rattle.std.proofs.lemmas.List.{length-map, length-append}
@@ -12,8 +12,8 @@ use Rattle.am_term.specs.declared.term.Term.TheVariants.{Var, In, App}
 use Rattle.am_term.specs.declared.kind.SymKind.TheVariants as kind
 use Rattle.am_term.specs.Induct.{term_cases}
 use Rattle.am_term.specs.Names.{is_fortran_name}
-use Rattle.am_term.specs.Place.{args_of, args_of-App}
-use Rattle.am_term.specs.Sorting.{sort_of, sort_of-In, term_fits, fits_place}
+use Rattle.am_term.specs.Place.{args_of-App}
+use Rattle.am_term.specs.Sorting.{sort_of, sort_of-In, fits_place}
 use Rattle.am_term.proofs.Tests.{and_left, and_right, and_both}
 use Rattle.am_theory.specs.declared.theory.Rep.{Rep}
 use Rattle.am_theory.specs.declared.theory.Routine.{Routine}
@@ -31,18 +31,18 @@ use Rattle.am_fortran.specs.declared.statement.Operand.TheVariants as operand
 use Rattle.am_fortran.specs.declared.statement.Statement.{Statement}
 use Rattle.am_fortran.specs.declared.statement.Statement.TheVariants.{Call, Assign, Apply}
 use Rattle.am_fortran.specs.Well.{is_between, is_type, is_declaration, is_operand, is_statement}
-use Rattle.am_exec.specs.Types.{dummy_type, local_type, is_scalar}
+use Rattle.am_exec.specs.Types.{dummy_type}
 use Rattle.am_plan.specs.declared.call.Callee.{Callee}
 use Rattle.am_plan.specs.declared.call.Callee.TheVariants as callee
 use Rattle.am_plan.specs.declared.call.PlannedCall.{PlannedCall}
-use Rattle.am_plan.specs.Answers.{sorts_of, Serves, AllServe, IsAnswerFor}
-use Rattle.am_plan.specs.Calls.{completed, callee_of, listed, same_call, calls, outputs_at, value_at, made_at, made_by, made}
-use Rattle.am_plan.specs.Names.{Named, named, named_from, locals, name_of}
+use Rattle.am_plan.specs.Answers.{sorts_of, AllServe, IsAnswerFor}
+use Rattle.am_plan.specs.Calls.{completed, listed, calls, outputs_at, value_at, made_at, made_by, made}
+use Rattle.am_plan.specs.Names.{Named, named, locals, name_of}
 use Rattle.am_plan.specs.Plan.{names_of, literal_or, literal_of, operand_for, routine_call, first_name, function_call, statement_at, statement_of, is_array_rep, copy_name, copy_to, is_set, copies, rep_or_double, dummy_decl, head_of, rep_of_sort, rep_of_head, local_decl, function_at, same_function, functions_used, function_decl, arguments}
-use Rattle.am_plan.proofs.Belonging.{Among, among-map, among-flat, all-among}
+use Rattle.am_plan.proofs.Belonging.{Among, among-flat, all-among}
 use Rattle.am_plan.proofs.Operands.{operand-In, operand-App}
 use Rattle.am_plan.proofs.Reached.{Good, Applied, applied, fit-count, not-ready, all-good, args-among, self-among, IsCallOf, call-of, RoutineAt, FunctionAt, callee-at, made-there}
-use Rattle.am_plan.proofs.Kept.{all-each, all-map, all-flat-map, all-append, all-member, all-distinct, all-at, find-among, free-fortran, free-all, named-all, name-fortran, locals-all, input-fortran, value-well, dummy-typed, local-typed, array-not-scalar}
+use Rattle.am_plan.proofs.Kept.{all-map, all-flat-map, all-append, all-member, all-distinct, all-at, find-among, free-fortran, free-all, named-all, name-fortran, locals-all, input-fortran, value-well, dummy-typed, local-typed, array-not-scalar}
 
 among-at : {A : Type 0} (xs : List A) (i : ℕ) (x : A) → slice_get xs i ≡ Some x → Among x xs
 among-at {A = A} [] i x at = absurd cc

@@ -1,10 +1,9 @@
 -- What a unit's parts keep: FORTRAN names, types in range, few arguments.
-use Rattle.std.proofs.Common.{◌≡◌, ◌∙◌, ◌⊎◌, inl, inr, ◌&&◌, ◌||◌, ◌==◌, ◌+◌, ◌/◌, ◌%◌, ◌<◌, ◌≤◌, ◌++◌, ℕ, zero, suc, Bool, true, false, not, cond, refl, sym, ap, subst, arith, Option, Some, None, List, [], ◌∷◌, length, map, slice_get, slice_index_or, is_some, find, nat_le, true≢false, if◌then◌else◌}
+use Rattle.std.proofs.Common.{◌≡◌, ◌∙◌, inl, inr, ◌&&◌, ◌==◌, ◌≤◌, ◌++◌, ℕ, zero, suc, Bool, true, false, not, cond, refl, sym, ap, subst, arith, Option, Some, None, List, [], ◌∷◌, length, map, slice_get, slice_index_or, is_some, find, nat_le, true≢false, if◌then◌else◌}
 use Rattle.std.specs.List.{AllByRecursion, filter, flat_map, list_all}
 use Rattle.std.proofs.lemmas.Bool.Decides.{nat_tests}
 use Rattle.std.proofs.lemmas.List.Folds.{list_all-append}
 use Rattle.am_term.specs.declared.id.SortId.{SortId}
-use Rattle.am_term.specs.declared.id.SymId.{SymId}
 use Rattle.am_term.specs.declared.term.Term.{Term}
 use Rattle.am_term.specs.Names.{is_upper, is_digit, is_fortran_byte, is_fortran_name, is_local_name}
 use Rattle.am_term.specs.Same.{same_term}

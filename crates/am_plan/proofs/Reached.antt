@@ -1,6 +1,6 @@
 -- The terms that an answer goes through: each is well sorted and computable, and has its arguments among
 -- them; and each call is of one of them.
-use Rattle.std.proofs.Common.{◌≡◌, ◌∙◌, ◌⊎◌, inl, inr, ◌&&◌, ◌||◌, ◌==◌, ◌+◌, ◌<◌, ◌++◌, ℕ, zero, suc, Bool, true, false, not, cond, refl, sym, ap, subst, arith, Option, Some, None, List, [], ◌∷◌, length, map, slice_get, slice_index_or, is_some, find, option_map, true≢false, if◌then◌else◌}
+use Rattle.std.proofs.Common.{◌≡◌, ◌∙◌, ◌⊎◌, inl, inr, ◌&&◌, ◌||◌, ◌==◌, ◌+◌, ◌<◌, ◌++◌, ℕ, zero, suc, Bool, true, false, cond, refl, sym, ap, subst, arith, Option, Some, None, List, [], ◌∷◌, length, map, slice_get, slice_index_or, is_some, find, option_map, true≢false, if◌then◌else◌}
 use Rattle.std.specs.List.{AllByRecursion, Contains, flat_map, list_all, list_any}
 use Rattle.std.proofs.lemmas.Bool.Decides.{nat_tests}
 use Rattle.am_term.specs.declared.id.SortId.{SortId}
@@ -11,29 +11,26 @@ use Rattle.am_term.specs.declared.symbol.Symbol.{Symbol}
 use Rattle.am_term.specs.declared.signature.Signature.{Signature}
 use Rattle.am_term.specs.declared.term.Term.{Term}
 use Rattle.am_term.specs.declared.term.Term.TheVariants.{Var, In, App}
-use Rattle.am_term.specs.Fold.{fold-Var, fold-In, fold-App}
+use Rattle.am_term.specs.Fold.{fold-Var, fold-App}
 use Rattle.am_term.specs.Induct.{term_induct, term_cases}
 use Rattle.am_term.specs.Place.{args_of, args_of-Var, args_of-In, args_of-App}
-use Rattle.am_term.specs.Same.{same_term}
-use Rattle.am_term.specs.Sorting.{fits_place, fit_places, result_at, sort_of, sorts_of as sorts_of_terms, sort_of-App, term_fits}
+use Rattle.am_term.specs.Sorting.{fits_place, fit_places, result_at, sort_of, sorts_of as sorts_of_terms, sort_of-App}
 use Rattle.am_term.specs.Symbols.{is_computable}
 use Rattle.am_term.proofs.Tests.{and_left, and_right, or_cases, or_left, or_right}
-use Rattle.am_clause.specs.Distinct.{among, distinct}
 use Rattle.am_clause.proofs.Members.{any-distinct}
 use Rattle.am_theory.specs.declared.theory.Routine.{Routine}
 use Rattle.am_theory.specs.declared.theory.FortranFunction.{FortranFunction}
 use Rattle.am_theory.specs.declared.theory.LiteralDecl.{LiteralDecl}
 use Rattle.am_theory.specs.declared.theory.Theory.{Theory}
 use Rattle.am_theory.specs.Facts.{WellFormed}
-use Rattle.am_diagram.specs.declared.diagram.Diagram.{Diagram}
 use Rattle.am_plan.specs.declared.call.Callee.{Callee}
 use Rattle.am_plan.specs.declared.call.Callee.TheVariants as callee
 use Rattle.am_plan.specs.declared.call.PlannedCall.{PlannedCall}
-use Rattle.am_plan.specs.Answers.{is_computable_symbol, ready_step, is_ready, sorts_of, Serves, AllServe, IsAnswerFor}
-use Rattle.am_plan.specs.Calls.{terms_below, completed, has_symbol, or_else, routine_from, function_from, callee_of, call_with, call_of, listed, same_call, asked, calls, outputs_at, value_at, made_at, made_by, made}
+use Rattle.am_plan.specs.Answers.{is_computable_symbol, ready_step, is_ready}
+use Rattle.am_plan.specs.Calls.{terms_below, completed, has_symbol, or_else, routine_from, function_from, callee_of, call_with, listed, same_call, asked, calls, outputs_at, value_at, made_at, made_by, made}
 use Rattle.am_plan.specs.Plan.{literal_of}
 use Rattle.am_plan.proofs.Asking.{below-Var, below-In, below-App, call_of-Var, call_of-In, call_of-App, own, same_call-refl, same_call-sound}
-use Rattle.am_plan.proofs.Belonging.{Among, among-left, among-right, among-split, among-map, among-flat, flat-among, all-among}
+use Rattle.am_plan.proofs.Belonging.{Among, among-left, among-right, among-split, among-map, among-flat, flat-among}
 
 -- ---- readiness
 ready-Var : (sig : Signature) (n : ℕ) (s : SortId) → is_ready sig (Var n s) ≡ false

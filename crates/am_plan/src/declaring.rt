@@ -1,8 +1,7 @@
-ghost use Rattle.std.specs.Prelude.{◌≡◌, ◌++◌, ◌∷◌, [], map, IfOk, OnOk, if◌then◌else◌, option_map, option_copied};
-ghost use Rattle.am_term.specs.declared.id.SymId.{SymId};
+ghost use Rattle.std.specs.Prelude.{◌≡◌, ◌++◌, ◌∷◌, [], map, IfOk, OnOk, if◌then◌else◌, option_copied};
 ghost use Rattle.am_term.specs.NameLists.{is_among};
 ghost use Rattle.am_fortran.specs.declared.statement.Decl.{Decl};
-ghost use Rattle.am_plan.specs.Names.{locals as locals_in, local_by, output_for as name_of_output};
+ghost use Rattle.am_plan.specs.Names.{locals as locals_in};
 ghost use Rattle.am_plan.specs.Plan.{dummy_decl as dummy_declaration, local_decl as local_declaration, function_decl as function_declaration, functions_used as functions_called, function_at};
 ghost use Rattle.am_plan.specs.Calls.{listed};
 

@@ -1,5 +1,4 @@
-ghost use Rattle.std.specs.Prelude.{◌≡◌, ◌==◌, find, option_copied};
-ghost use Rattle.am_theory.specs.declared.theory.LiteralDecl.{LiteralDecl};
+ghost use Rattle.std.specs.Prelude.{◌≡◌, option_copied};
 ghost use Rattle.am_theory.specs.Lookups.{rep_of as rep_at, copy_of as copy_at, result_sort as sort_given};
 ghost use Rattle.am_exec.specs.Types.{dummy_type as dummy_kind, local_type as local_kind, is_scalar as is_kept_in_scalar};
 ghost use Rattle.am_plan.specs.Plan.{literal_of as literal_with, rep_or_double, rep_of_sort as rep_at_sort, is_array_rep};

@@ -1,4 +1,4 @@
-ghost use Rattle.std.specs.Prelude.{◌≡◌, ◌++◌, ◌∷◌, ◌^◌, ◌<◌, ◌≤◌, ℕ, map, length, IfOk, OnOk, option_copied, option_map, [], ◌≢◌};
+ghost use Rattle.std.specs.Prelude.{◌≡◌, ◌∷◌, ◌<◌, ◌≤◌, map, IfOk, option_copied, []};
 ghost use Rattle.std.specs.List.{flat_map};
 ghost use Rattle.am_term.specs.declared.id.SymId.{SymId};
 ghost use Rattle.am_term.specs.declared.term.Term.TheVariants.{App};

@@ -1,6 +1,5 @@
 use Rattle.std.proofs.Common.{◌≡◌, ◌++◌, arith, map}
 use Rattle.std.specs.List.{flat_map}
-use Rattle.am_fortran.specs.declared.statement.Decl.{Decl}
 use Rattle.am_plan.specs.Calls.{calls}
 use Rattle.am_plan.specs.Names.{named, locals}
 use Rattle.am_plan.specs.Plan.{arguments, dummy_decl, local_decl, function_decl, functions_used, statement_of, copies}
