@@ -6,3 +6,4 @@ pub mod Reached
 pub mod Kept
 pub mod Planned
 pub mod Keeping
+pub mod Sizes

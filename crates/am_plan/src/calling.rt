@@ -1,9 +1,10 @@
 ghost use Rattle.std.specs.Prelude.{◌≡◌, [], ◌∷◌, IfOk, OnOk, option_map};
-ghost use Rattle.am_clause.specs.Distinct.{among, with_new};
-ghost use Rattle.am_plan.specs.Calls.{has_symbol as is_symbol_in, routine_from, function_from, callee_of as callee_with, call_with, listed, same_callee as are_same_callees, same_call, asked, calls as calls_asked};
+ghost use Rattle.am_clause.specs.Distinct.{with_new};
+ghost use Rattle.am_plan.specs.Calls.{has_symbol as is_symbol_in, routine_from, function_from, callee_of as callee_with, call_with, listed, same_call, asked, calls as calls_asked};
 
 use crate::call::{Callee, PlannedCall};
-use am_term::{NoMemory, SymId, Term, copies, same_terms};
+use crate::seen::{Seen, add, is_called};
+use am_term::{NoMemory, SymId, Term, copies};
 use am_theory::{FortranFunction, Routine, Theory};
 use sqlite_items::Items;
 use std::alloc::Global;
@@ -72,9 +73,10 @@ pub fn calls(
 ) -> Result<Items<PlannedCall>, NoMemory>
     ensures { IfOk result (λ cs. cs ≡ calls_asked theory.now answer.now) }
 {
-    let mut seen = Items::new(alloc);
+    let mut seen = Seen::new(alloc);
     collect_all(alloc, theory, answer, &mut seen)?;
-    Ok(seen)
+    let Seen { calls, sizes: _ } = seen;
+    Ok(calls)
 }
 
 // The calls of the terms in turn, each behind what was seen unless it was seen.
@@ -84,9 +86,9 @@ fn collect_all(
     alloc: Global,
     theory: &Theory,
     terms: &[Term],
-    seen: &mut Items<PlannedCall>,
+    seen: &mut Seen,
 ) -> Result<(), NoMemory>
-    ensures { OnOk result (seen.new ≡ with_new same_call seen.old (asked theory.now terms.now)) }
+    ensures { OnOk result (seen.new.calls ≡ with_new same_call seen.old.calls (asked theory.now terms.now)) }
 {
     for term in terms {
         collect(alloc, theory, term, seen)?;
@@ -97,13 +99,8 @@ fn collect_all(
 // The calls of the arguments from left to right, and then the term's own.
 #[cycle(collecting)]
 #[tactic(auto, using(crate::proofs::Asking::asking))]
-fn collect(
-    alloc: Global,
-    theory: &Theory,
-    term: &Term,
-    seen: &mut Items<PlannedCall>,
-) -> Result<(), NoMemory>
-    ensures { OnOk result (seen.new ≡ with_new same_call seen.old (asked theory.now (term.now ∷ []))) }
+fn collect(alloc: Global, theory: &Theory, term: &Term, seen: &mut Seen) -> Result<(), NoMemory>
+    ensures { OnOk result (seen.new.calls ≡ with_new same_call seen.old.calls (asked theory.now (term.now ∷ []))) }
 {
     match term {
         Term::Var { .. } => Ok(()),
@@ -121,9 +118,9 @@ fn ask(
     alloc: Global,
     callee: Option<Callee>,
     args: &[Term],
-    seen: &mut Items<PlannedCall>,
+    seen: &mut Seen,
 ) -> Result<(), NoMemory>
-    ensures { OnOk result (seen.new ≡ with_new same_call seen.old (listed (option_map (call_with args.now) callee))) }
+    ensures { OnOk result (seen.new.calls ≡ with_new same_call seen.old.calls (listed (option_map (call_with args.now) callee))) }
 {
     match callee {
         None => Ok(()),
@@ -132,44 +129,12 @@ fn ask(
 }
 
 #[tactic(auto, using(crate::proofs::Asking::asking))]
-fn note(
-    alloc: Global,
-    callee: Callee,
-    args: &[Term],
-    seen: &mut Items<PlannedCall>,
-) -> Result<(), NoMemory>
-    ensures { OnOk result (seen.new ≡ with_new same_call seen.old (call_with args.now callee ∷ [])) }
+fn note(alloc: Global, callee: Callee, args: &[Term], seen: &mut Seen) -> Result<(), NoMemory>
+    ensures { OnOk result (seen.new.calls ≡ with_new same_call seen.old.calls (call_with args.now callee ∷ [])) }
 {
-    if is_called(callee, args, seen.as_slice()) {
+    if is_called(callee, args, seen) {
         return Ok(());
     }
     let args = copies(alloc, args)?;
-    seen.push(PlannedCall { callee, args })?;
-    Ok(())
-}
-
-// Whether the call at these terms is one of the calls.
-#[tactic(auto, using(crate::proofs::Asking::asking))]
-fn is_called(callee: Callee, args: &[Term], calls: &[PlannedCall]) -> bool
-    ensures { result ≡ among same_call (call_with args.now callee) calls.now }
-{
-    let mut rest = calls;
-    while let [call, behind @ ..] = rest {
-        if same_callee(callee, call.callee) && same_terms(args, call.args.as_slice()) {
-            return true;
-        }
-        rest = behind;
-    }
-    false
-}
-
-fn same_callee(a: Callee, b: Callee) -> bool
-    ensures { result ≡ are_same_callees a b }
-{
-    match (a, b) {
-        (Callee::Routine(j), Callee::Routine(k)) => j == k,
-        (Callee::Function(j), Callee::Function(k)) => j == k,
-        (Callee::Routine(_), Callee::Function(_)) => false,
-        (Callee::Function(_), Callee::Routine(_)) => false,
-    }
+    add(seen, PlannedCall { callee, args })
 }

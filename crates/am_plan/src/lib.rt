@@ -9,11 +9,14 @@ mod call;
 mod calling;
 mod declaring;
 mod lookups;
+mod named_terms;
 mod naming;
 mod planning;
+mod seen;
 mod stating;
 
 pub use call::{Callee, PlannedCall};
 pub use calling::{callee_of, calls};
-pub use naming::{local_name, made, made_by, name_of, named, output_for};
+pub use named_terms::{NamedTerms, name_of, sized};
+pub use naming::{local_name, made, made_by, named, output_for};
 pub use planning::plan;

@@ -3,7 +3,7 @@ ghost use Rattle.std.specs.List.{flat_map};
 ghost use Rattle.am_term.specs.declared.id.SymId.{SymId};
 ghost use Rattle.am_term.specs.declared.term.Term.TheVariants.{App};
 ghost use Rattle.am_plan.specs.Calls.{made_by as terms_of_call};
-ghost use Rattle.am_plan.specs.Names.{digit as digit_of, local_name as name_of_local, output_for as name_of_output, named_by, named_from, name_of as name_under};
+ghost use Rattle.am_plan.specs.Names.{digit as digit_of, local_name as name_of_local, output_for as name_of_output, named_by, named_from};
 
 use crate::call::{Callee, PlannedCall};
 use am_term::{Name, NoMemory, SortId, SymId, Term, copies, copy, same};
@@ -148,18 +148,4 @@ fn digit(n: usize, power: usize) -> u8
     ensures ascii { result < 128 }
 {
     48 + (n / power % 10) as u8
-}
-
-/// The name of a term; the empty text where no call makes it. Takes no memory.
-pub fn name_of<'a>(names: &'a [(Name, Term)], term: &Term) -> &'a str
-    ensures { result.now ≡ name_under names.now term.now }
-{
-    let mut rest = names;
-    while let [entry, behind @ ..] = rest {
-        if same(&entry.1, term) {
-            return entry.0.as_str();
-        }
-        rest = behind;
-    }
-    ""
 }

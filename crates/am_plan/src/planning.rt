@@ -10,6 +10,7 @@ ghost use Rattle.am_plan.specs.Plan.{IsPlan, names_of, arguments, dummy_decl, lo
 use crate::call::PlannedCall;
 use crate::calling::calls;
 use crate::declaring::{functions, push_dummies, push_locals};
+use crate::named_terms::{NamedTerms, sized};
 use crate::naming::{made, named};
 use crate::stating::{push_copies, statements};
 use am_diagram::Diagram;
@@ -42,17 +43,10 @@ pub fn plan(
         theory,
         diagram,
         answer,
-        names.as_slice(),
+        names.entries.as_slice(),
         calls.as_slice(),
     )?;
-    let statements = body(
-        alloc,
-        theory,
-        diagram,
-        answer,
-        names.as_slice(),
-        calls.as_slice(),
-    )?;
+    let statements = body(alloc, theory, diagram, answer, &names, calls.as_slice())?;
     Ok(Unit {
         name,
         dummies,
@@ -69,11 +63,12 @@ fn names(
     diagram: &Diagram,
     answer: &[Term],
     calls: &[PlannedCall],
-) -> Result<Items<(Name, Term)>, NoMemory>
-    ensures { IfOk result (λ ns. ns ≡ named_from 1 diagram.now.outputs answer.now (flat_map (made_by theory.now) calls.now)) }
+) -> Result<NamedTerms, NoMemory>
+    ensures { IfOk result (λ ns. ns.entries ≡ named_from 1 diagram.now.outputs answer.now (flat_map (made_by theory.now) calls.now)) }
 {
     let made = made(alloc, theory, calls)?;
-    named(alloc, diagram.outputs.as_slice(), answer, made.as_slice())
+    let entries = named(alloc, diagram.outputs.as_slice(), answer, made.as_slice())?;
+    sized(alloc, entries)
 }
 
 fn copy_name(alloc: Global, name: &Name) -> Result<Name, NoMemory>
@@ -142,10 +137,10 @@ fn body(
     theory: &Theory,
     diagram: &Diagram,
     answer: &[Term],
-    names: &[(Name, Term)],
+    names: &NamedTerms,
     calls: &[PlannedCall],
 ) -> Result<Items<Statement>, NoMemory>
-    ensures { IfOk result (λ ss. ss ≡ flat_map (statement_for theory.now diagram.now names.now) calls.now ++ copies theory.now diagram.now names.now diagram.now.outputs answer.now) }
+    ensures { IfOk result (λ ss. ss ≡ flat_map (statement_for theory.now diagram.now names.now.entries) calls.now ++ copies theory.now diagram.now names.now.entries diagram.now.outputs answer.now) }
 {
     let mut made = statements(alloc, theory, diagram, names, calls)?;
     push_copies(alloc, theory, diagram, names, answer, &mut made)?;

@@ -9,7 +9,8 @@ ghost use Rattle.am_plan.specs.Plan.{names_of, written_value as written, operand
 
 use crate::call::{Callee, PlannedCall};
 use crate::lookups::{copy_of, is_array, literal_of};
-use crate::naming::{made_by, name_of};
+use crate::named_terms::{NamedTerms, name_of};
+use crate::naming::made_by;
 use am_diagram::Diagram;
 use am_fortran::{Operand, Statement};
 use am_term::{Name, NoMemory, SortId, Term};
@@ -23,10 +24,10 @@ pub fn operand_for(
     alloc: Global,
     theory: &Theory,
     diagram: &Diagram,
-    names: &[(Name, Term)],
+    names: &NamedTerms,
     term: &Term,
 ) -> Result<Operand, NoMemory>
-    ensures { IfOk result (λ o. o ≡ operand_of theory.now diagram.now names.now term.now) }
+    ensures { IfOk result (λ o. o ≡ operand_of theory.now diagram.now names.now.entries term.now) }
 {
     match term {
         Term::Var { .. } => held(alloc, names, term),
@@ -42,8 +43,8 @@ pub fn operand_for(
 }
 
 // The name that holds a term.
-fn held(alloc: Global, names: &[(Name, Term)], term: &Term) -> Result<Operand, NoMemory>
-    ensures { IfOk result (λ o. o ≡ operand.Name (name_under names.now term.now)) }
+fn held(alloc: Global, names: &NamedTerms, term: &Term) -> Result<Operand, NoMemory>
+    ensures { IfOk result (λ o. o ≡ operand.Name (name_under names.now.entries term.now)) }
 {
     Ok(Operand::Name(Name::new(alloc, name_of(names, term))?))
 }
@@ -73,10 +74,10 @@ pub fn operands_for(
     alloc: Global,
     theory: &Theory,
     diagram: &Diagram,
-    names: &[(Name, Term)],
+    names: &NamedTerms,
     terms: &[Term],
 ) -> Result<Items<Operand>, NoMemory>
-    ensures { IfOk result (λ os. os ≡ map (operand_of theory.now diagram.now names.now) terms.now) }
+    ensures { IfOk result (λ os. os ≡ map (operand_of theory.now diagram.now names.now.entries) terms.now) }
 {
     let mut made = Items::new(alloc);
     let mut rest = terms;
@@ -90,11 +91,11 @@ pub fn operands_for(
 // The names that hold the terms, behind what is there.
 fn push_names(
     alloc: Global,
-    names: &[(Name, Term)],
+    names: &NamedTerms,
     terms: &[Term],
     made: &mut Items<Operand>,
 ) -> Result<(), NoMemory>
-    ensures { OnOk result (made.new ≡ made.old ++ map (λ (x : Term). operand.Name (name_under names.now x)) terms.now) }
+    ensures { OnOk result (made.new ≡ made.old ++ map (λ (x : Term). operand.Name (name_under names.now.entries x)) terms.now) }
 {
     let mut rest = terms;
     while let [term, behind @ ..] = rest {
@@ -110,10 +111,10 @@ pub fn statement_of(
     alloc: Global,
     theory: &Theory,
     diagram: &Diagram,
-    names: &[(Name, Term)],
+    names: &NamedTerms,
     call: &PlannedCall,
 ) -> Result<Option<Statement>, NoMemory>
-    ensures { IfOk result (λ s. listed s ≡ statement_for theory.now diagram.now names.now call.now) }
+    ensures { IfOk result (λ s. listed s ≡ statement_for theory.now diagram.now names.now.entries call.now) }
 {
     match call.callee {
         Callee::Routine(k) => match theory.routines.get(k) {
@@ -133,11 +134,11 @@ fn routine_call(
     alloc: Global,
     theory: &Theory,
     diagram: &Diagram,
-    names: &[(Name, Term)],
+    names: &NamedTerms,
     call: &PlannedCall,
     routine: &Routine,
 ) -> Result<Statement, NoMemory>
-    ensures { IfOk result (λ s. s ∷ [] ≡ call_of_routine theory.now diagram.now names.now call.now (Some routine.now)) }
+    ensures { IfOk result (λ s. s ∷ [] ≡ call_of_routine theory.now diagram.now names.now.entries call.now (Some routine.now)) }
 {
     let terms = made_by(alloc, theory, call)?;
     let mut args = operands_for(alloc, theory, diagram, names, call.args.as_slice())?;
@@ -150,11 +151,11 @@ fn function_call(
     alloc: Global,
     theory: &Theory,
     diagram: &Diagram,
-    names: &[(Name, Term)],
+    names: &NamedTerms,
     call: &PlannedCall,
     function: &FortranFunction,
 ) -> Result<Statement, NoMemory>
-    ensures { IfOk result (λ s. s ∷ [] ≡ call_of_function theory.now diagram.now names.now call.now (Some function.now)) }
+    ensures { IfOk result (λ s. s ∷ [] ≡ call_of_function theory.now diagram.now names.now.entries call.now (Some function.now)) }
 {
     let terms = made_by(alloc, theory, call)?;
     let target = Name::new(alloc, first_name(names, terms.as_slice()))?;
@@ -168,8 +169,8 @@ fn function_call(
 }
 
 // The name of the first of the terms; the empty text where there is none. Takes no memory.
-fn first_name<'a>(names: &'a [(Name, Term)], terms: &[Term]) -> &'a str
-    ensures { result.now ≡ first_name_under names.now terms.now }
+fn first_name<'a>(names: &'a NamedTerms, terms: &[Term]) -> &'a str
+    ensures { result.now ≡ first_name_under names.now.entries terms.now }
 {
     match terms {
         [] => "",
@@ -183,10 +184,10 @@ pub fn statements(
     alloc: Global,
     theory: &Theory,
     diagram: &Diagram,
-    names: &[(Name, Term)],
+    names: &NamedTerms,
     calls: &[PlannedCall],
 ) -> Result<Items<Statement>, NoMemory>
-    ensures { IfOk result (λ ss. ss ≡ flat_map (statement_for theory.now diagram.now names.now) calls.now) }
+    ensures { IfOk result (λ ss. ss ≡ flat_map (statement_for theory.now diagram.now names.now.entries) calls.now) }
 {
     let mut made = Items::new(alloc);
     let mut rest = calls;
@@ -205,11 +206,11 @@ pub fn push_copies(
     alloc: Global,
     theory: &Theory,
     diagram: &Diagram,
-    names: &[(Name, Term)],
+    names: &NamedTerms,
     answer: &[Term],
     made: &mut Items<Statement>,
 ) -> Result<(), NoMemory>
-    ensures { OnOk result (made.new ≡ made.old ++ copies_of theory.now diagram.now names.now diagram.now.outputs answer.now) }
+    ensures { OnOk result (made.new ≡ made.old ++ copies_of theory.now diagram.now names.now.entries diagram.now.outputs answer.now) }
 {
     let mut left = diagram.outputs.as_slice();
     let mut rest = answer;
@@ -217,7 +218,7 @@ pub fn push_copies(
         match rest {
             [] => return Ok(()),
             [term, behind @ ..] => {
-                if !is_set(names, &output.0) {
+                if !is_set(names.entries.as_slice(), &output.0) {
                     let from = operand_for(alloc, theory, diagram, names, term)?;
                     made.push(copy_to(alloc, theory, &output.0, output.1, from)?)?;
                 }

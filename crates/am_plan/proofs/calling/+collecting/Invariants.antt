@@ -5,4 +5,4 @@ use Rattle.am_plan.proofs.calling.+collecting.Given as goal
 
 -- the calls of the terms so far are seen
 abbrev pub invariant-collect_all-loop-term : goal.invariant-collect_all-loop-term
-invariant-collect_all-loop-term l = l.seen ≡ with_new same_call l.initial.seen (asked l.theory (take l.term-index l.terms))
+invariant-collect_all-loop-term l = l.seen.calls ≡ with_new same_call l.initial.seen.calls (asked l.theory (take l.term-index l.terms))

@@ -5,7 +5,7 @@ use Rattle.am_plan.proofs.stating.statements.Given as goal
 
 -- what was made, with what is left, is all
 abbrev pub invariant-loop-rest : goal.invariant-loop-rest
-invariant-loop-rest l = l.made ++ flat_map (statement_of l.theory l.diagram l.names) l.rest ≡ flat_map (statement_of l.theory l.diagram l.names) l.calls
+invariant-loop-rest l = l.made ++ flat_map (statement_of l.theory l.diagram l.names.entries) l.rest ≡ flat_map (statement_of l.theory l.diagram l.names.entries) l.calls
 
 abbrev pub decreases-loop-rest : goal.decreases-loop-rest
 decreases-loop-rest l = length l.rest
