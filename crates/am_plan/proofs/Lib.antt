@@ -14,3 +14,11 @@ pub mod Once
 pub mod Planned
 pub mod Running
 pub mod Standing
+pub mod Asking
+pub mod Operands
+pub mod Declared
+pub mod Reached
+pub mod Kept
+pub mod Keeping
+pub mod Sizes
+pub mod UnitPlanned

@@ -4,8 +4,8 @@ use sqlite_items::Items;
 /// What is called: a routine or a listed function, by its place in the theory, from 0.
 #[derive(Clone, Copy, Debug, PartialEq, Eq)]
 pub enum Callee {
-    Routine(u32),
-    Function(u32),
+    Routine(usize),
+    Function(usize),
 }
 
 /// A call, with the terms that its inputs stand for.

@@ -6,7 +6,19 @@
 #![tactic(auto)]
 
 mod call;
+mod calling;
+mod declaring;
 mod laws;
+mod lookups;
+mod named_terms;
+mod naming;
+mod planning;
+mod seen;
+mod stating;
 
 pub use call::{Callee, PlannedCall};
+pub use calling::{callee_of, calls};
 pub use laws::{law_of_answer, law_of_calls, law_of_need};
+pub use named_terms::{NamedTerms, name_of, sized};
+pub use naming::{local_name, made, made_by, named, output_for};
+pub use planning::plan;

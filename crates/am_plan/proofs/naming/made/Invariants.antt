@@ -1,0 +1,11 @@
+use Rattle.std.proofs.Common.{◌≡◌, ◌++◌, length}
+use Rattle.std.specs.List.{flat_map}
+use Rattle.am_plan.specs.Calls.{made_by}
+use Rattle.am_plan.proofs.naming.made.Given as goal
+
+-- what was made, with what is left, is all
+abbrev pub invariant-loop-rest : goal.invariant-loop-rest
+invariant-loop-rest l = l.made ++ flat_map (made_by l.theory) l.rest ≡ flat_map (made_by l.theory) l.calls
+
+abbrev pub decreases-loop-rest : goal.decreases-loop-rest
+decreases-loop-rest l = length l.rest

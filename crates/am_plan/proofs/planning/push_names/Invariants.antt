@@ -1,0 +1,10 @@
+use Rattle.std.proofs.Common.{◌≡◌, ◌++◌, length}
+use Rattle.am_plan.specs.Plan.{names_of}
+use Rattle.am_plan.proofs.planning.push_names.Given as goal
+
+-- what was made, with what is left, is all
+abbrev pub invariant-loop-rest : goal.invariant-loop-rest
+invariant-loop-rest l = l.names ++ names_of l.rest ≡ l.initial.names ++ names_of l.entries
+
+abbrev pub decreases-loop-rest : goal.decreases-loop-rest
+decreases-loop-rest l = length l.rest
