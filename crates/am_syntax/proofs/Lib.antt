@@ -18,4 +18,7 @@ pub mod MeaningSteps
 pub mod NamingSteps
 pub mod PlacesAside
 pub mod SpelledRead
+pub mod Members
 pub mod ReadSpelled
+pub mod Writable
+pub mod FormAgain

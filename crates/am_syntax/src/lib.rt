@@ -25,8 +25,10 @@ pub use laws::{
     what_is_meant_is_written_back,
 };
 pub use laws_of_shapes::{
-    places_do_not_count, read_formulas_can_be_spelled, read_terms_can_be_spelled,
-    spelled_formulas_are_read, spelled_terms_are_read,
+    places_do_not_count, read_formulas_are_no_higher, read_formulas_can_be_spelled,
+    read_formulas_can_be_written, read_terms_are_no_higher, read_terms_are_their_forms,
+    read_terms_can_be_spelled, read_terms_can_be_written, spelled_formulas_are_read,
+    spelled_formulas_can_be_written, spelled_terms_are_read, spelled_terms_can_be_written,
 };
 pub use lookups::written_sort;
 pub use meaning::{atom_meaning, formula_meaning, literal_meaning, term_meaning};
@@ -35,3 +37,6 @@ pub use scope::{Bound, Flaw, Scope, Standing};
 pub use shapes::{formula_of, literal_of, term_of};
 pub use table::NameTable;
 pub use written::{Words, WrittenAtom, WrittenFormula, WrittenLiteral, WrittenTerm};
+
+#[cfg(test)]
+mod tests;
