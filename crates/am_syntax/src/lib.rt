@@ -6,6 +6,8 @@
 //! again. The format is this project's own. The crate rests on `am_term` and `am_text`.
 #![tactic(auto)]
 
+#[cfg(test)]
+mod flaw_tests;
 mod flaws;
 mod forms;
 mod laws;
