@@ -1,6 +1,6 @@
 -- What a form is, by its node.
-use Rattle.std.proofs.Common.{◌≡◌, ℕ, zero, suc, ◌+◌, ◌<◌, Bool, true, false, List, [], ◌∷◌, ◌++◌, length, map, take, get_or, Option, Some, None, refl, sym, ap, ◌∙◌, arith}
-use Rattle.std.specs.Prelude.{ℤ, if◌then◌else◌}
+use Rattle.std.proofs.Common.{◌≡◌, ℕ, zero, suc, ◌+◌, ◌<◌, List, [], ◌∷◌, ◌++◌, length, map, take, get_or, Option, Some, None, refl, ap, ◌∙◌, arith}
+use Rattle.std.specs.Prelude.{ℤ}
 use Rattle.std.proofs.lemmas.List.{map_more, map_push}
 use Rattle.std.proofs.lemmas.Grind.{common_steps}
 use Rattle.am_text.specs.declared.form.Form.{Form}
@@ -8,17 +8,20 @@ use Rattle.am_text.specs.declared.form.FormNode.{FormNode}
 use Rattle.am_text.specs.declared.form.FormNode.TheVariants as node
 use Rattle.am_text.specs.declared.form.FormNode.TheVariants.{outs-Word, outs-Number, outs-Text, outs-List}
 use Rattle.am_text.specs.declared.form.FormNode.TheViews.{out-FormNode, the_lemmas}
-use Rattle.am_syntax.specs.Shapes.{with_first, all_of, some_of}
+use Rattle.am_syntax.specs.Shapes.{with_first, all_of}
 use Rattle.am_theory.specs.declared.theory.LitValue.{LitValue}
 use Rattle.am_theory.specs.declared.theory.LitValue.TheVariants as value
 use Rattle.am_theory.specs.Declarations.{word_at, number_at, value_at, list_at, word_of, number_of, value_of, list_of}
 
 abbrev pub no_word : Option (List ℕ)
 no_word = None
+
 abbrev pub no_number : Option ℤ
 no_number = None
+
 abbrev pub no_value : Option LitValue
 no_value = None
+
 abbrev pub no_forms : Option (List Form)
 no_forms = None
 

@@ -12,3 +12,5 @@ pub mod Parents
 pub mod Positions
 pub mod SortFirst
 pub mod Swapped
+pub mod DeclarationSteps
+pub mod LineSteps

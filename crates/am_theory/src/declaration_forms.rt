@@ -1,9 +1,10 @@
 ghost use Rattle.std.specs.Prelude.{◌≡◌, ◌++◌, [], ◌∷◌, pos, IfOk, OnOk, map, codes};
 ghost use Rattle.am_syntax.specs.Forms.{word_form, list_form, headed_form};
-ghost use Rattle.am_theory.specs.CanonicalText.{number_form, value_form, names_form, typed_form, rep_form, rep_forms, version_form};
+ghost use Rattle.am_theory.specs.CanonicalText.{number_form, value_form, names_form, typed_form, rep_form, rep_forms, version_form, decl_form};
 
 use crate::declaration::{Declaration, Typed, WrittenRep};
 use crate::theory::LitValue;
+use am_syntax::{WrittenFormula, formula_form};
 use am_term::{Name, NoMemory};
 use am_text::{Form, FormNode};
 use sqlite_items::Items;
@@ -108,10 +109,7 @@ fn rep_form(alloc: Global, rep: WrittenRep) -> Result<Form, NoMemory>
 fn one_number(alloc: Global, head: &str, number: i64) -> Result<Form, NoMemory>
     ensures { IfOk result (λ f. f ≡ headed_form head.now (number_form number ∷ [])) }
 {
-    let mut members = Items::new(alloc);
-    members.push(word_form(alloc, head)?)?;
-    members.push(number_form(number))?;
-    Ok(list_form(members))
+    one_member(alloc, head, number_form(number))
 }
 
 fn two_numbers(alloc: Global, head: &str, first: i64, second: i64) -> Result<Form, NoMemory>
@@ -157,12 +155,7 @@ fn sort_form(
     Ok(list_form(members))
 }
 
-fn function_form(
-    alloc: Global,
-    name: &Name,
-    args: &[Name],
-    sort: &Name,
-) -> Result<Form, NoMemory>
+fn function_form(alloc: Global, name: &Name, args: &[Name], sort: &Name) -> Result<Form, NoMemory>
     ensures { IfOk result (λ f. f ≡ headed_form (codes "function") (word_form name.now ∷ names_form args.now ∷ word_form sort.now ∷ [])) }
 {
     let mut members = two_words(alloc, "function", name)?;
@@ -179,12 +172,7 @@ fn relation_form(alloc: Global, name: &Name, args: &[Name]) -> Result<Form, NoMe
     Ok(list_form(members))
 }
 
-fn literal_form(
-    alloc: Global,
-    name: &Name,
-    sort: &Name,
-    value: &LitValue,
-) -> Result<Form, NoMemory>
+fn literal_form(alloc: Global, name: &Name, sort: &Name, value: &LitValue) -> Result<Form, NoMemory>
     ensures { IfOk result (λ f. f ≡ headed_form (codes "literal") (word_form name.now ∷ word_form sort.now ∷ value_form value.now ∷ [])) }
 {
     let mut members = two_words(alloc, "literal", name)?;
@@ -228,4 +216,72 @@ pub fn version_form(alloc: Global) -> Result<Form, NoMemory>
     ensures { IfOk result (λ f. f ≡ version_form) }
 {
     one_number(alloc, "theory", 1)
+}
+
+#[tactic(auto, unfolding(crate::specs::CanonicalText::decl_form))]
+fn axiom_form(
+    alloc: Global,
+    variables: &[Typed],
+    formula: &WrittenFormula,
+) -> Result<Form, NoMemory>
+    ensures { IfOk result (λ f. f ≡ decl_form (Declaration.Axiom variables.now formula.now)) }
+{
+    let formula = formula_form(alloc, formula)?;
+    match variables {
+        [] => one_member(alloc, "axiom", formula),
+        [_, ..] => {
+            let quantified = quantified_form(alloc, variables, formula)?;
+            one_member(alloc, "axiom", quantified)
+        }
+    }
+}
+
+fn quantified_form(alloc: Global, variables: &[Typed], formula: Form) -> Result<Form, NoMemory>
+    ensures { IfOk result (λ f. f ≡ headed_form (codes "all") (list_form (map typed_form variables.now) ∷ formula ∷ [])) }
+{
+    let mut typed = Items::new(alloc);
+    push_typed(alloc, &mut typed, variables)?;
+    let mut members = Items::new(alloc);
+    members.push(word_form(alloc, "all")?)?;
+    members.push(list_form(typed))?;
+    members.push(formula)?;
+    Ok(list_form(members))
+}
+
+fn one_member(alloc: Global, head: &str, member: Form) -> Result<Form, NoMemory>
+    ensures { IfOk result (λ f. f ≡ headed_form head.now (member ∷ [])) }
+{
+    let mut members = Items::new(alloc);
+    members.push(word_form(alloc, head)?)?;
+    members.push(member)?;
+    Ok(list_form(members))
+}
+
+/// The form of a declaration, with all places 0.
+#[tactic(auto, unfolding(crate::specs::CanonicalText::decl_form))]
+pub fn decl_form(alloc: Global, declaration: &Declaration) -> Result<Form, NoMemory>
+    ensures { IfOk result (λ f. f ≡ decl_form declaration.now) }
+{
+    match declaration {
+        Declaration::Sort { name, rep, copy } => sort_form(alloc, name, rep, copy),
+        Declaration::Function { name, args, result } => {
+            function_form(alloc, name, args.as_slice(), result)
+        }
+        Declaration::Relation { name, args } => relation_form(alloc, name, args.as_slice()),
+        Declaration::Literal { name, sort, value } => literal_form(alloc, name, sort, value),
+        Declaration::Routine {
+            name,
+            inputs,
+            outputs,
+        } => routine_form(alloc, name, inputs.as_slice(), outputs.as_slice()),
+        Declaration::Value {
+            function,
+            name,
+            args,
+            result,
+        } => value_decl_form(alloc, function, name, args.as_slice(), result),
+        Declaration::Axiom { variables, formula } => {
+            axiom_form(alloc, variables.as_slice(), formula)
+        }
+    }
 }

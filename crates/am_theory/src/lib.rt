@@ -10,6 +10,7 @@
 
 mod declaration;
 mod declaration_forms;
+mod declarations;
 mod fault;
 mod shapes;
 mod fortran;
@@ -18,7 +19,9 @@ mod limits;
 mod reps;
 mod tables;
 mod theory;
+mod writing;
 
 pub use declaration::{Declaration, Typed, WrittenRep};
 pub use fault::{TheoryFault, TheoryKind};
 pub use theory::{Axiom, FortranFunction, LitValue, LiteralDecl, Rep, Routine, Theory};
+pub use writing::write_theory;

@@ -152,7 +152,11 @@ fn rep_in(members: &[Form]) -> Option<WrittenRep>
     match members {
         [head, number] => rep_of_one(word_of(head)?.as_str(), number_of(number)?),
         [head, first, second] => {
-            rep_of_two(word_of(head)?.as_str(), number_of(first)?, number_of(second)?)
+            rep_of_two(
+                word_of(head)?.as_str(),
+                number_of(first)?,
+                number_of(second)?,
+            )
         }
         _ => None,
     }
