@@ -23,5 +23,6 @@ mod writing;
 
 pub use declaration::{Declaration, Typed, WrittenRep};
 pub use fault::{TheoryFault, TheoryKind};
+pub use shapes::{list_of, name_of, word_of};
 pub use theory::{Axiom, FortranFunction, LitValue, LiteralDecl, Rep, Routine, Theory};
 pub use writing::write_theory;
