@@ -1,5 +1,6 @@
-ghost use Rattle.std.specs.Prelude.{◌≡◌, IfOk};
+ghost use Rattle.std.specs.Prelude.{◌≡◌, ◌+◌, IfOk, length, nat_lt};
 ghost use Rattle.am_term.specs.NameLists.{is_among};
+ghost use Rattle.am_diagram.specs.Limits.{dummy_limit};
 ghost use Rattle.am_diagram.specs.Faults.{names_of, used_names, is_taken, given_has, requirement_has, literal_has, has_unknown_name, is_twice, is_not_concrete, has_bad_fortran_name, has_reserved_name, is_over_limit, first_kind, head_kind, end_kind};
 
 use crate::declaration::Declaration;
@@ -166,13 +167,17 @@ fn is_used(draft: &Draft, name: &Name) -> bool
         || has_name(draft.outputs.as_slice(), name)
 }
 
-#[tactic(auto, using(crate::proofs::NameSteps::name_steps))]
 fn has_name(entries: &[(Name, SortId)], name: &Name) -> bool
     ensures { result ≡ is_among name.now (names_of entries.now) }
 {
-    entries
-        .iter()
-        .any(|entry| name.as_str() == entry.0.as_str())
+    let mut rest = entries;
+    while let [(other, _), behind @ ..] = rest {
+        if name.as_str() == other.as_str() {
+            return true;
+        }
+        rest = behind;
+    }
+    false
 }
 
 #[tactic(auto, unfolding(crate::specs::Faults::is_not_concrete))]
@@ -219,12 +224,21 @@ fn is_over_limit(draft: &Draft, declaration: &Declaration) -> bool
     ensures { result ≡ is_over_limit draft.now declaration.now }
 {
     match declaration {
-        Declaration::Input { .. } => draft.inputs.len() + draft.outputs.len() >= DUMMY_LIMIT,
+        Declaration::Input { .. } => has_all_dummies(draft),
         Declaration::Object { .. } => draft.objects.len() >= OBJECT_LIMIT,
-        Declaration::Output { .. } => draft.inputs.len() + draft.outputs.len() >= DUMMY_LIMIT,
+        Declaration::Output { .. } => has_all_dummies(draft),
         Declaration::Given(_) => draft.givens.len() >= GIVEN_LIMIT,
         Declaration::Require(_) => draft.required.len() >= REQUIREMENT_LIMIT,
     }
+}
+
+// Whether one more input or output is too many.
+#[tactic(auto, using(crate::proofs::NameSteps::limit_steps))]
+fn has_all_dummies(draft: &Draft) -> bool
+    ensures { result ≡ nat_lt dummy_limit (length draft.now.inputs + length draft.now.outputs + 1) }
+{
+    let inputs = draft.inputs.len();
+    inputs >= DUMMY_LIMIT || draft.outputs.len() >= DUMMY_LIMIT - inputs
 }
 
 /// The first kind of fault that the diagram's own name has.

@@ -61,7 +61,8 @@ fn fortran_names(alloc: Global, theory: &Theory) -> Result<NameTable, NoMemory>
     let table = NameTable::new(alloc);
     let table = with_routines(alloc, table, theory.routines.as_slice())?;
     let table = with_functions(alloc, table, theory.functions.as_slice())?;
-    with_copies(alloc, table, theory.copies.as_slice())
+    let table = with_copies(alloc, table, theory.copies.as_slice())?;
+    Ok(table)
 }
 
 fn with_routines(
