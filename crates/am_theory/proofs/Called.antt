@@ -1,15 +1,16 @@
 -- Names of what is called: one more routine, one more listed function, one more copy routine.
-use Rattle.std.proofs.Common.{◌≡◌, ◌∙◌, ◌||◌, ℕ, false, Option, Some, None, List, [], ◌∷◌, ◌++◌, map, refl, sym, ap}
-use Rattle.std.specs.List.{list_any, flat_map}
+use Rattle.std.proofs.Common.{◌≡◌, ◌∙◌, ℕ, false, Option, Some, None, List, [], ◌∷◌, ◌++◌, map, refl, sym, ap}
+use Rattle.std.specs.List.{flat_map}
 use Rattle.std.specs.Str.{bytes_eq}
 use Rattle.std.proofs.lemmas.List.{map-append}
 use Rattle.std.proofs.lemmas.Grind.{flat_map-append}
 use Rattle.am_term.specs.NameLists.{is_among}
-use Rattle.am_syntax.proofs.Among.{none_left, none_right}
+use Rattle.am_syntax.proofs.Among.{none_left}
 use Rattle.am_theory.specs.declared.theory.Routine.{Routine}
 use Rattle.am_theory.specs.declared.theory.FortranFunction.{FortranFunction}
 use Rattle.am_theory.specs.Lookups.{listed_name}
-use Rattle.am_theory.proofs.Joined.{none_both, none-front, none-behind, none-joined, bytes_eq-turned}
+use Rattle.am_theory.proofs.Appends.{none_both, names-turned}
+use Rattle.am_theory.proofs.Joined.{none-front, none-behind, none-joined}
 
 abbrev routine_names : List Routine → List (List ℕ)
 routine_names rs = map (λ (r : Routine). r.name) rs
@@ -31,7 +32,7 @@ module _ (w : List ℕ) (rs : List Routine) (fs : List FortranFunction) where
 
     -- and is not that of the routine
     pub unlike-routine : bytes_eq r.name w ≡ false
-    unlike-routine = bytes_eq-turned r.name w ∙ none_left (bytes_eq w r.name) false (none-behind (bytes_eq w) (routine_names rs) (r.name ∷ []) parted_routines)
+    unlike-routine = names-turned r.name w ∙ none_left (bytes_eq w r.name) false (none-behind (bytes_eq w) (routine_names rs) (r.name ∷ []) parted_routines)
 
   module _ (f : FortranFunction) (e : is_among w (routine_names rs ++ function_names (fs ++ f ∷ [])) ≡ false) where
     parted_functions : is_among w (function_names fs ++ (f.name ∷ [])) ≡ false
@@ -46,7 +47,7 @@ module _ (w : List ℕ) (rs : List Routine) (fs : List FortranFunction) where
 
     -- and is not that of the function
     pub unlike-function : bytes_eq f.name w ≡ false
-    unlike-function = bytes_eq-turned f.name w ∙ none_left (bytes_eq w f.name) false (none-behind (bytes_eq w) (function_names fs) (f.name ∷ []) parted_functions)
+    unlike-function = names-turned f.name w ∙ none_left (bytes_eq w f.name) false (none-behind (bytes_eq w) (function_names fs) (f.name ∷ []) parted_functions)
 
 -- a name is not that of a copy routine
 abbrev pub IsUnlike : List ℕ → Option (List ℕ) → Type 0

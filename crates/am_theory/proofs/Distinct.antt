@@ -7,11 +7,8 @@ use Rattle.std.specs.Str.{bytes_eq}
 use Rattle.std.proofs.lemmas.Slice.Eq.{bytes_eq-Decides}
 use Rattle.am_theory.specs.declared.declaration.Typed.{Typed}
 use Rattle.am_theory.specs.Faults.{names_in}
+use Rattle.am_theory.specs.Additions.{any_among, are_new}
 use Rattle.am_term.specs.NameLists.{is_among, are_distinct}
-
--- some name is among those seen
-abbrev pub any_among : List (List ℕ) → List (List ℕ) → Bool
-any_among seen names = list_any (λ n. is_among n seen) names
 
 bytes-turned : (m n : List ℕ) → bytes_eq m n ≡ bytes_eq n m
 bytes-turned m n = grind (arith, bytes_eq-Decides m n, bytes_eq-Decides n m)
@@ -42,23 +39,19 @@ distinct-step seen next n ns h e =
     ∙ parted (is_among n ns) (any_among seen ns) (are_distinct ns)
     ∙ ap (λ b. not (b || any_among seen ns) && are_distinct (n ∷ ns)) (sym e)
 
--- what is left decides: none of it was seen, and none of it stands twice
-abbrev pub is_left_distinct : List (List ℕ) → List Typed → Bool
-is_left_distinct seen vs = not (any_among seen (names_in vs)) && are_distinct (names_in vs)
-
 none-seen : (ns : List (List ℕ)) → any_among [] ns ≡ false
 none-seen [] = refl
 none-seen (n ∷ ns) = none-seen ns
 
-pub distinct-start : (seen : List (List ℕ)) (vs : List Typed) → seen ≡ [] → is_left_distinct seen vs ≡ are_distinct (names_in vs)
-distinct-start seen vs e = ap (λ s. is_left_distinct s vs) e ∙ ap (λ b. not b && are_distinct (names_in vs)) (none-seen (names_in vs))
+pub distinct-start : (seen : List (List ℕ)) (vs : List Typed) → seen ≡ [] → are_new seen vs ≡ are_distinct (names_in vs)
+distinct-start seen vs e = ap (λ s. are_new s vs) e ∙ ap (λ b. not b && are_distinct (names_in vs)) (none-seen (names_in vs))
 
-one-left : (vs : List Typed) (i : ℕ) (one : Typed) → i < length vs → one ≡ get_or vs i one → drop i vs ≡ one ∷ drop (i + 1) vs
+pub one-left : (vs : List Typed) (i : ℕ) (one : Typed) → i < length vs → one ≡ get_or vs i one → drop i vs ≡ one ∷ drop (i + 1) vs
 one-left vs i one h e =
     let n : suc i ≡ i + 1 = omega arith in
     drop-cons vs i one h ∙ ap (λ m. get_or vs i one ∷ drop m vs) n ∙ ap (λ v. v ∷ drop (i + 1) vs) (sym e)
 
-pub distinct-on : (seen next : List (List ℕ)) (vs : List Typed) (i : ℕ) (one : Typed) → i < length vs → one ≡ get_or vs i one → ((q : List ℕ) → is_among q next ≡ (bytes_eq q one.name || is_among q seen)) → is_among one.name seen ≡ false → is_left_distinct next (drop (i + 1) vs) ≡ is_left_distinct seen (drop i vs)
+pub distinct-on : (seen next : List (List ℕ)) (vs : List Typed) (i : ℕ) (one : Typed) → i < length vs → one ≡ get_or vs i one → ((q : List ℕ) → is_among q next ≡ (bytes_eq q one.name || is_among q seen)) → is_among one.name seen ≡ false → are_new next (drop (i + 1) vs) ≡ are_new seen (drop i vs)
 distinct-on seen next vs i one h is add e =
     distinct-step seen next one.name (names_in (drop (i + 1) vs)) add e
-    ∙ ap (is_left_distinct seen) (sym (one-left vs i one h is))
+    ∙ ap (are_new seen) (sym (one-left vs i one h is))

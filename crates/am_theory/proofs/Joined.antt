@@ -1,17 +1,13 @@
 -- Tests, places and maps over lists that are joined.
-use Rattle.std.proofs.Common.{◌≡◌, ◌∙◌, ◌||◌, ℕ, zero, suc, ◌+◌, Bool, true, false, Option, Some, None, List, [], ◌∷◌, ◌++◌, map, length, refl, sym, ap, true≢false, cond, arith}
-use Rattle.std.specs.Prelude.{slice_get, find}
+use Rattle.std.proofs.Common.{◌≡◌, ◌∙◌, ◌||◌, ℕ, Bool, true, false, Option, Some, None, List, [], ◌∷◌, ◌++◌, refl, sym, ap, cond}
+use Rattle.std.specs.Prelude.{find}
 use Rattle.std.specs.List.{list_any}
 use Rattle.std.specs.Str.{bytes_eq}
 use Rattle.std.proofs.lemmas.Option.{none-some}
 use Rattle.std.proofs.lemmas.List.Folds.{list_any-append}
-use Rattle.std.proofs.lemmas.Slice.Eq.{bytes_eq-Decides}
 use Rattle.am_term.specs.NameLists.{is_among}
-use Rattle.am_term.proofs.Tests.{same_tests}
+use Rattle.am_theory.proofs.Appends.{none_both, names-turned}
 use Rattle.am_syntax.proofs.Among.{none_left, none_right}
-
-pub none_both : (a b : Bool) → a ≡ false → b ≡ false → (a || b) ≡ false
-none_both a b e f = ap (λ x. x || b) e ∙ f
 
 -- ---- a test that nothing passes
 module _ {A : Type 0} (test : A → Bool) where
@@ -29,26 +25,22 @@ pub none-also : {A : Type 0} (p q : A → Bool) → ((x : A) → p x ≡ false �
 none-also p q f [] e = refl
 none-also p q f (x ∷ xs) e = none_both (q x) (list_any q xs) (f x (none_left (p x) (list_any p xs) e)) (none-also p q f xs (none_right (p x) (list_any p xs) e))
 
+-- where no member passes either of two tests, none passes one that fails where both do
+pub none-either : {A : Type 0} (p q r : A → Bool) → ((x : A) → p x ≡ false → q x ≡ false → r x ≡ false) → (xs : List A) → list_any p xs ≡ false → list_any q xs ≡ false → list_any r xs ≡ false
+none-either p q r f [] e h = refl
+none-either p q r f (x ∷ xs) e h =
+    none_both (r x) (list_any r xs)
+    (f x (none_left (p x) (list_any p xs) e) (none_left (q x) (list_any q xs) h))
+    (none-either p q r f xs (none_right (p x) (list_any p xs) e) (none_right (q x) (list_any q xs) h))
+
 -- two tests with the same answers
 pub any-same : {A : Type 0} (p q : A → Bool) → ((x : A) → p x ≡ q x) → (xs : List A) → list_any p xs ≡ list_any q xs
 any-same p q f [] = refl
 any-same p q f (x ∷ xs) = ap (λ b. b || list_any p xs) (f x) ∙ ap (λ b. q x || b) (any-same p q f xs)
 
--- ---- the member at a place
-pub slice_get-front : {A : Type 0} (xs ys : List A) (k : ℕ) (x : A) → slice_get xs k ≡ Some x → slice_get (xs ++ ys) k ≡ Some x
-slice_get-front [] ys k x e = absurd (none-some x e)
-slice_get-front (y ∷ xs) ys zero x e = e
-slice_get-front (y ∷ xs) ys (suc k) x e = slice_get-front xs ys k x e
-
 -- ---- lists of names with nothing in common
-same_after : (a b : List ℕ) → bytes_eq a b ≡ true → bytes_eq b a ≡ true
-same_after a b e = grind (arith, bytes_eq-Decides a b, bytes_eq-Decides b a)
-
-pub bytes_eq-turned : (a b : List ℕ) → bytes_eq a b ≡ bytes_eq b a
-bytes_eq-turned a b = same_tests (bytes_eq a b) (bytes_eq b a) (λ e. same_after a b e) (λ e. same_after b a e)
-
 none_turned : (ys : List (List ℕ)) (v : List ℕ) → list_any (λ y. bytes_eq y v) ys ≡ false → is_among v ys ≡ false
-none_turned ys v e = any-same (bytes_eq v) (λ y. bytes_eq y v) (bytes_eq-turned v) ys ∙ e
+none_turned ys v e = any-same (bytes_eq v) (λ y. bytes_eq y v) (names-turned v) ys ∙ e
 
 -- no member of ys is the first of vs, and none is a later one
 heads : (ys : List (List ℕ)) (v : List ℕ) (vs : List (List ℕ)) → list_any (λ y. is_among y (v ∷ vs)) ys ≡ false → list_any (λ y. bytes_eq y v) ys ≡ false
@@ -57,9 +49,9 @@ heads ys v vs e = none-also (λ y. is_among y (v ∷ vs)) (λ y. bytes_eq y v) (
 tails : (ys : List (List ℕ)) (v : List ℕ) (vs : List (List ℕ)) → list_any (λ y. is_among y (v ∷ vs)) ys ≡ false → list_any (λ y. is_among y vs) ys ≡ false
 tails ys v vs e = none-also (λ y. is_among y (v ∷ vs)) (λ y. is_among y vs) (λ y f. none_right (bytes_eq y v) (is_among y vs) f) ys e
 
-pub apart-turned : (ys vs : List (List ℕ)) → list_any (λ y. is_among y vs) ys ≡ false → list_any (λ v. is_among v ys) vs ≡ false
-apart-turned ys [] e = refl
-apart-turned ys (v ∷ vs) e = none_both (is_among v ys) (list_any (λ w. is_among w ys) vs) (none_turned ys v (heads ys v vs e)) (apart-turned ys vs (tails ys v vs e))
+pub disjoint-turned : (ys vs : List (List ℕ)) → list_any (λ y. is_among y vs) ys ≡ false → list_any (λ v. is_among v ys) vs ≡ false
+disjoint-turned ys [] e = refl
+disjoint-turned ys (v ∷ vs) e = none_both (is_among v ys) (list_any (λ w. is_among w ys) vs) (none_turned ys v (heads ys v vs e)) (disjoint-turned ys vs (tails ys v vs e))
 
 -- ---- the first member that passes a test
 found_none : {A : Type 0} (b : Bool) (x : A) (o : Option A) → cond b (Some x) o ≡ None → (b ≡ false) × (o ≡ None)

@@ -1,9 +1,8 @@
 -- A sort that is known has a place, and the name at that place is its name.
-use Rattle.std.proofs.Common.{◌≡◌, ◌∙◌, ◌||◌, ℕ, Bool, true, false, Option, Some, None, List, [], ◌∷◌, ◌++◌, map, refl, sym, ap, true≢false}
-use Rattle.std.specs.Prelude.{slice_index_or, is_some}
+use Rattle.std.proofs.Common.{◌≡◌, ◌∙◌, ℕ, true, false, Option, Some, None, List, [], ◌∷◌, refl, sym, ap, true≢false}
+use Rattle.std.specs.Prelude.{is_some}
 use Rattle.std.specs.List.{list_any}
 use Rattle.std.proofs.lemmas.Option.{get_or_from_slice_get}
-use Rattle.am_term.specs.declared.id.SortId.{SortId}
 use Rattle.am_term.specs.NameLists.{is_among}
 use Rattle.am_term.proofs.Tests.{false_not}
 use Rattle.am_syntax.specs.Positions.{position_of}
@@ -11,7 +10,7 @@ use Rattle.am_syntax.proofs.Among.{none_left, none_right}
 use Rattle.am_theory.specs.Contents.{Contents, id_of, sort_number, sort_numbers}
 use Rattle.am_theory.specs.Faults.{is_unknown_sort}
 use Rattle.am_theory.specs.CanonicalText.{sort_name, sort_names}
-use Rattle.am_theory.proofs.Positions.{position_among, position_there}
+use Rattle.am_syntax.proofs.Positions.{position_among, position_there}
 
 pub record IsPlaced (w : List ℕ) (ws : List (List ℕ)) : Type 0 where
   pub place : ℕ

@@ -1,12 +1,10 @@
 -- One more sort: the sorts that were known stand for what they stood for.
-use Rattle.std.proofs.Common.{◌≡◌, ◌∙◌, ◌||◌, ◌&&◌, ℕ, Bool, true, false, not, Option, Some, None, List, [], ◌∷◌, ◌++◌, map, refl, sym, ap, true≢false}
+use Rattle.std.proofs.Common.{◌≡◌, ◌∙◌, ◌&&◌, ℕ, true, false, Option, Some, None, List, [], ◌∷◌, ◌++◌, refl, sym, ap, true≢false}
 use Rattle.std.specs.Prelude.{slice_get, is_none}
 use Rattle.std.specs.List.{list_any}
-use Rattle.std.proofs.lemmas.Option.{none-some}
 use Rattle.std.proofs.lemmas.List.Folds.{list_any-append}
 use Rattle.am_term.specs.declared.id.SortId.{SortId}
 use Rattle.am_term.specs.NameLists.{is_among}
-use Rattle.am_term.specs.Sorts.{akin_in}
 use Rattle.am_term.proofs.Tests.{false_not, or_left, not_true}
 use Rattle.am_syntax.specs.Positions.{position_of}
 use Rattle.am_syntax.proofs.Among.{none_left, none_right}
@@ -14,12 +12,12 @@ use Rattle.am_theory.specs.declared.theory.Rep.{Rep}
 use Rattle.am_theory.specs.declared.theory.LitValue.{LitValue}
 use Rattle.am_theory.specs.declared.theory.LitValue.TheVariants as value
 use Rattle.am_theory.specs.declared.theory.LiteralDecl.{LiteralDecl}
-use Rattle.am_theory.specs.declared.declaration.Typed.{Typed}
 use Rattle.am_theory.specs.Lookups.{known}
 use Rattle.am_theory.specs.Contents.{Contents, id_of, sort_number, sort_numbers}
 use Rattle.am_theory.specs.Faults.{is_unknown_sort, rep_at, rep_named, is_abstract, suits, is_returnable, same_value, is_akin_to, sort_of_symbol, is_literal_of}
-use Rattle.am_theory.proofs.Positions.{position_kept}
-use Rattle.am_theory.proofs.Joined.{slice_get-front, any-same, none-also}
+use Rattle.am_syntax.proofs.Positions.{position_kept}
+use Rattle.am_theory.proofs.Appends.{get-left}
+use Rattle.am_theory.proofs.Joined.{any-same, none-also}
 use Rattle.am_theory.proofs.KnownSorts.{IsPlaced, placed}
 use Rattle.am_theory.proofs.Parents.{one_more, akin-pushed}
 
@@ -60,7 +58,7 @@ module _ (c : Contents) (n : List ℕ) (r : Option Rep) (copy : Option (List ℕ
   -- ---- representations
   rep-there : (k : ℕ) (o : Option (Option Rep)) → slice_get c.reps k ≡ o → is_none (known o) ≡ false → known (slice_get (c.reps ++ r ∷ []) k) ≡ known o
   rep-there k None p e = absurd (true≢false e)
-  rep-there k (Some x) p e = ap known (slice_get-front c.reps (r ∷ []) k x p)
+  rep-there k (Some x) p e = ap known (get-left c.reps (r ∷ []) k x p)
 
   rep-placed : (w : List ℕ) (o : Option ℕ) → position_of w c.sorts ≡ o → is_none (rep_at c.reps o) ≡ false → rep_named with_sort w ≡ rep_at c.reps o
   rep-placed w None p e = absurd (true≢false e)

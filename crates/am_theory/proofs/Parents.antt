@@ -1,5 +1,5 @@
 -- One more sort without a parent: which sort fits which, and which are akin, stays as it was.
-use Rattle.std.proofs.Common.{◌≡◌, ◌∙◌, ◌||◌, ℕ, zero, suc, Bool, false, Option, Some, None, List, [], ◌∷◌, ◌++◌, refl, ap}
+use Rattle.std.proofs.Common.{◌≡◌, ◌∙◌, ◌||◌, ℕ, zero, suc, false, Option, Some, None, List, [], ◌∷◌, ◌++◌, refl, ap}
 use Rattle.std.specs.Prelude.{slice_get}
 use Rattle.am_term.specs.declared.id.SortId.{SortId}
 use Rattle.am_term.specs.Sorts.{same_sort, below, parent_in, at_parent, fits_within, fits_in, root_within, root_in, akin_in}

@@ -1,14 +1,14 @@
 -- Two declarations, one behind the other, that may as well stand the other way round.
-use Rattle.std.proofs.Common.{◌≡◌, List}
+use Rattle.std.proofs.Common.{◌≡◌}
 use Rattle.am_theory.specs.declared.declaration.Declaration.{Declaration}
 use Rattle.am_theory.specs.declared.declaration.Declaration.TheVariants as decl
 use Rattle.am_theory.specs.Contents.{Contents, with_decl}
-use Rattle.am_theory.proofs.Clean.{IsClean}
+use Rattle.am_theory.proofs.NoFault.{IsFaultless}
 
 -- e may stand before d, d behind it, and what there is then is the same
 pub record IsSwapped (c : Contents) (d e : Declaration) : Type 0 where
-  pub before : IsClean c e
-  pub behind : IsClean (with_decl c e) d
+  pub before : IsFaultless c e
+  pub behind : IsFaultless (with_decl c e) d
   pub same : with_decl (with_decl c d) e ≡ with_decl (with_decl c e) d
 
 abbrev pub DeclaresSort : Declaration → Type 0

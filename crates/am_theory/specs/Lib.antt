@@ -1,11 +1,17 @@
+pub mod Additions
 pub mod AxiomScope
 pub mod Canonical
 pub mod CanonicalText
 pub mod Contents
+pub mod DeclarationLaws
 pub mod Declarations
 pub mod Facts
 pub mod Faults
+pub mod Laws
 pub mod Limits
 pub mod Lookups
 pub mod Reading
+pub mod Tabled
 pub mod Traces
+pub mod Spellable
+pub mod RoundTrip

@@ -8,7 +8,7 @@ use Rattle.am_theory.specs.declared.declaration.Declaration.{Declaration}
 use Rattle.am_theory.specs.declared.declaration.Declaration.TheVariants as decl
 use Rattle.am_theory.specs.Contents.{Contents, axiom_scope}
 use Rattle.am_theory.specs.Faults.{has_unknown_name, is_twice, axiom_has, has_bad_sort, has_bad_arity, has_unbound, quantifies, is_badly_represented, clashes, is_over_limit}
-use Rattle.am_theory.proofs.Clean.{IsClean}
+use Rattle.am_theory.proofs.NoFault.{IsFaultless}
 use Rattle.am_theory.proofs.Swapped.{DeclaresSymbol}
 
 -- what an axiom's formula may have, no symbol has
@@ -22,11 +22,11 @@ untested test b (decl.Value f n args r) h = refl
 untested test b (decl.Axiom vs g) h = absurd h
 
 -- a symbol without a fault in some surroundings, and without five kinds of fault in others, has none there
-pub symbol-clean : (c b : Contents) (d : Declaration) → DeclaresSymbol d → IsClean c d → has_unknown_name b d ≡ false → is_twice b d ≡ false → is_badly_represented b d ≡ false → clashes b d ≡ false → is_over_limit b d ≡ false → IsClean b d
+pub symbol-faultless : (c b : Contents) (d : Declaration) → DeclaresSymbol d → IsFaultless c d → has_unknown_name b d ≡ false → is_twice b d ≡ false → is_badly_represented b d ≡ false → clashes b d ≡ false → is_over_limit b d ≡ false → IsFaultless b d
 unfolding has_bad_sort has_bad_arity has_unbound quantifies
-symbol-clean c b d h k known once represented apart small = record {
+symbol-faultless c b d h k known new represented apart few = record {
   known = known;
-  once = once;
+  new = new;
   sorted = untested (λ x vs g. formula_has (axiom_scope x vs) BadSort g) b d h;
   counted = untested (λ x vs g. formula_has (axiom_scope x vs) BadArity g) b d h;
   represented = represented;
@@ -35,5 +35,5 @@ symbol-clean c b d h k known once represented apart small = record {
   apart = apart;
   bound = untested (λ x vs g. formula_has (axiom_scope x vs) Unbound g) b d h;
   plain = untested (λ x vs g. has_quantifier g) b d h;
-  small = small;
+  few = few;
 }

@@ -1,6 +1,6 @@
 -- A sort that is declared behind a symbol may stand before it.
-use Rattle.std.proofs.Common.{◌≡◌, ◌∙◌, ◌||◌, ◌+◌, ℕ, Bool, false, true, not, Option, Some, None, List, [], ◌∷◌, ◌++◌, map, length, refl, sym, ap}
-use Rattle.std.specs.Prelude.{option_map, nat_lt, is_none}
+use Rattle.std.proofs.Common.{◌≡◌, ◌∙◌, ◌||◌, ◌+◌, ℕ, false, not, Option, Some, None, List, [], ◌∷◌, ◌++◌, map, length, refl, sym, ap}
+use Rattle.std.specs.Prelude.{option_map, nat_lt}
 use Rattle.std.specs.List.{list_any}
 use Rattle.am_term.specs.declared.id.SortId.{SortId}
 use Rattle.am_term.specs.declared.kind.SymKind.{SymKind}
@@ -17,11 +17,11 @@ use Rattle.am_theory.specs.declared.declaration.Typed.{Typed}
 use Rattle.am_theory.specs.declared.declaration.Declaration.{Declaration}
 use Rattle.am_theory.specs.declared.declaration.Declaration.TheVariants as decl
 use Rattle.am_theory.specs.Contents.{Contents, rep_meaning, sort_number, sort_numbers, output_profile, numbers_from, next_symbol, with_decl}
-use Rattle.am_theory.specs.Faults.{sorts_in, is_unknown_sort, has_unknown_name, is_taken, is_literal_of, is_twice, has_bad_sort, has_bad_arity, has_unbound, quantifies, rep_named, is_abstract, suits, is_returnable, is_badly_represented, lacks_copy, has_bad_fortran_name, called_names, copy_names, copy_clashes, clashes, is_over_limit}
+use Rattle.am_theory.specs.Faults.{sorts_in, is_unknown_sort, has_unknown_name, is_taken, is_literal_of, is_twice, has_bad_sort, has_bad_arity, has_unbound, quantifies, rep_named, is_abstract, is_returnable, is_badly_represented, lacks_copy, has_bad_fortran_name, called_names, copy_names, copy_clashes, clashes, is_over_limit}
 use Rattle.am_theory.specs.Limits.{sort_limit}
-use Rattle.am_theory.proofs.Clean.{IsClean}
-use Rattle.am_theory.proofs.CleanSymbol.{symbol-clean}
-use Rattle.am_theory.proofs.Joined.{none_both}
+use Rattle.am_theory.proofs.NoFault.{IsFaultless}
+use Rattle.am_theory.proofs.FaultlessSymbol.{symbol-faultless}
+use Rattle.am_theory.proofs.Appends.{none_both}
 use Rattle.am_theory.proofs.Called.{IsUnlike, uncalled-routine, unlike-routine, uncalled-function, unlike-function, uncopied}
 use Rattle.am_theory.proofs.MoreSorts.{with_sort, sort-known, sorts-known, number-kept, numbers-kept, concrete-kept, suited-kept, returned-kept, literals-kept}
 use Rattle.am_theory.proofs.Swapped.{IsSwapped, DeclaresSymbol}
@@ -40,11 +40,11 @@ module _ (c : Contents) (n : List ℕ) (r : Option WrittenRep) (copy : Option (L
   uncalled_copy b called (Some w) e = called w e
 
   -- where the sorts are the same and no more is called
-  pub sort-before : (b : Contents) → b.sorts ≡ c.sorts → ((w : List ℕ) → is_among w (called_names b) ≡ false → is_among w (called_names c) ≡ false) → IsClean b (decl.Sort n r copy) → IsClean c (decl.Sort n r copy)
+  pub sort-before : (b : Contents) → b.sorts ≡ c.sorts → ((w : List ℕ) → is_among w (called_names b) ≡ false → is_among w (called_names c) ≡ false) → IsFaultless b (decl.Sort n r copy) → IsFaultless c (decl.Sort n r copy)
   unfolding has_unknown_name is_twice has_bad_sort has_bad_arity has_unbound quantifies is_badly_represented lacks_copy has_bad_fortran_name clashes is_over_limit
   sort-before b s called k = record {
     known = refl;
-    once = ap (is_among n) (sym s) ∙ k.once;
+    new = ap (is_among n) (sym s) ∙ k.new;
     sorted = refl;
     counted = refl;
     represented = k.represented;
@@ -53,68 +53,68 @@ module _ (c : Contents) (n : List ℕ) (r : Option WrittenRep) (copy : Option (L
     apart = uncalled_copy b called copy k.apart;
     bound = refl;
     plain = refl;
-    small = ap (λ xs. nat_lt sort_limit (length xs + 1)) (sym s) ∙ k.small;
+    few = ap (λ xs. nat_lt sort_limit (length xs + 1)) (sym s) ∙ k.few;
   }
 
   -- ---- the symbol behind, by its kind
-  function-behind : (m : List ℕ) (args : List (List ℕ)) (s : List ℕ) → IsClean c (decl.Function m args s) → IsClean wide (decl.Function m args s)
+  function-behind : (m : List ℕ) (args : List (List ℕ)) (s : List ℕ) → IsFaultless c (decl.Function m args s) → IsFaultless wide (decl.Function m args s)
   unfolding has_unknown_name is_twice is_badly_represented clashes is_over_limit
   function-behind m args s k =
-      symbol-clean c wide (decl.Function m args s) tt k
+      symbol-faultless c wide (decl.Function m args s) tt k
       (none_both _ _
-        (sorts-known c n (option_map rep_meaning r) copy args (none_left (list_any (is_unknown_sort c) args) (is_unknown_sort c s) k.known))
-        (sort-known c n (option_map rep_meaning r) copy s (none_right (list_any (is_unknown_sort c) args) (is_unknown_sort c s) k.known)))
-      k.once refl refl k.small
+      (sorts-known c n (option_map rep_meaning r) copy args (none_left (list_any (is_unknown_sort c) args) (is_unknown_sort c s) k.known))
+      (sort-known c n (option_map rep_meaning r) copy s (none_right (list_any (is_unknown_sort c) args) (is_unknown_sort c s) k.known)))
+      k.new refl refl k.few
 
-  relation-behind : (m : List ℕ) (args : List (List ℕ)) → IsClean c (decl.Relation m args) → IsClean wide (decl.Relation m args)
+  relation-behind : (m : List ℕ) (args : List (List ℕ)) → IsFaultless c (decl.Relation m args) → IsFaultless wide (decl.Relation m args)
   unfolding has_unknown_name is_twice is_badly_represented clashes is_over_limit
   relation-behind m args k =
-      symbol-clean c wide (decl.Relation m args) tt k
+      symbol-faultless c wide (decl.Relation m args) tt k
       (sorts-known c n (option_map rep_meaning r) copy args k.known)
-      k.once refl refl k.small
+      k.new refl refl k.few
 
-  literal-behind : (m s : List ℕ) (v : LitValue) → IsClean c (decl.Literal m s v) → IsClean wide (decl.Literal m s v)
+  literal-behind : (m s : List ℕ) (v : LitValue) → IsFaultless c (decl.Literal m s v) → IsFaultless wide (decl.Literal m s v)
   unfolding has_unknown_name is_twice is_badly_represented clashes is_over_limit
   literal-behind m s v k =
-      symbol-clean c wide (decl.Literal m s v) tt k
+      symbol-faultless c wide (decl.Literal m s v) tt k
       (sort-known c n (option_map rep_meaning r) copy s k.known)
       (ap (λ x. is_taken c m || list_any (is_literal_of wide x v) c.literals) (number-kept c n (option_map rep_meaning r) copy s k.known)
-        ∙ ap (λ b. is_taken c m || b) (literals-kept c n (option_map rep_meaning r) copy (sort_number c s) v c.literals)
-        ∙ k.once)
+      ∙ ap (λ b. is_taken c m || b) (literals-kept c n (option_map rep_meaning r) copy (sort_number c s) v c.literals)
+      ∙ k.new)
       (not_true _ (suited-kept c n (option_map rep_meaning r) copy v s (false_not _ k.represented)))
-      refl k.small
+      refl k.few
 
-  routine-behind : (m : List ℕ) (inputs : List (List ℕ)) (outputs : List Typed) → IsUnlike m copy → IsClean c (decl.Routine m inputs outputs) → IsClean wide (decl.Routine m inputs outputs)
+  routine-behind : (m : List ℕ) (inputs : List (List ℕ)) (outputs : List Typed) → IsUnlike m copy → IsFaultless c (decl.Routine m inputs outputs) → IsFaultless wide (decl.Routine m inputs outputs)
   unfolding has_unknown_name is_twice is_badly_represented clashes is_over_limit
   routine-behind m inputs outputs unlike k =
-      symbol-clean c wide (decl.Routine m inputs outputs) tt k
+      symbol-faultless c wide (decl.Routine m inputs outputs) tt k
       (none_both _ _
-        (sorts-known c n (option_map rep_meaning r) copy inputs (none_left (list_any (is_unknown_sort c) inputs) (list_any (is_unknown_sort c) (sorts_in outputs)) k.known))
-        (sorts-known c n (option_map rep_meaning r) copy (sorts_in outputs) (none_right (list_any (is_unknown_sort c) inputs) (list_any (is_unknown_sort c) (sorts_in outputs)) k.known)))
-      k.once
+      (sorts-known c n (option_map rep_meaning r) copy inputs (none_left (list_any (is_unknown_sort c) inputs) (list_any (is_unknown_sort c) (sorts_in outputs)) k.known))
+      (sorts-known c n (option_map rep_meaning r) copy (sorts_in outputs) (none_right (list_any (is_unknown_sort c) inputs) (list_any (is_unknown_sort c) (sorts_in outputs)) k.known)))
+      k.new
       (none_both _ _
-        (concrete-kept c n (option_map rep_meaning r) copy inputs (none_left (list_any (is_abstract c) inputs) (list_any (is_abstract c) (sorts_in outputs)) k.represented))
-        (concrete-kept c n (option_map rep_meaning r) copy (sorts_in outputs) (none_right (list_any (is_abstract c) inputs) (list_any (is_abstract c) (sorts_in outputs)) k.represented)))
+      (concrete-kept c n (option_map rep_meaning r) copy inputs (none_left (list_any (is_abstract c) inputs) (list_any (is_abstract c) (sorts_in outputs)) k.represented))
+      (concrete-kept c n (option_map rep_meaning r) copy (sorts_in outputs) (none_right (list_any (is_abstract c) inputs) (list_any (is_abstract c) (sorts_in outputs)) k.represented)))
       (none_both _ _
-        (none_left (is_among m (called_names c)) (is_among m (copy_names c)) k.apart)
-        (uncopied m c.copies copy (none_right (is_among m (called_names c)) (is_among m (copy_names c)) k.apart) unlike))
-      k.small
+      (none_left (is_among m (called_names c)) (is_among m (copy_names c)) k.apart)
+      (uncopied m c.copies copy (none_right (is_among m (called_names c)) (is_among m (copy_names c)) k.apart) unlike))
+      k.few
 
-  value-behind : (f m : List ℕ) (args : List (List ℕ)) (s : List ℕ) → IsUnlike f copy → IsClean c (decl.Value f m args s) → IsClean wide (decl.Value f m args s)
+  value-behind : (f m : List ℕ) (args : List (List ℕ)) (s : List ℕ) → IsUnlike f copy → IsFaultless c (decl.Value f m args s) → IsFaultless wide (decl.Value f m args s)
   unfolding has_unknown_name is_twice is_badly_represented clashes is_over_limit
   value-behind f m args s unlike k =
-      symbol-clean c wide (decl.Value f m args s) tt k
+      symbol-faultless c wide (decl.Value f m args s) tt k
       (none_both _ _
-        (sorts-known c n (option_map rep_meaning r) copy args (none_left (list_any (is_unknown_sort c) args) (is_unknown_sort c s) k.known))
-        (sort-known c n (option_map rep_meaning r) copy s (none_right (list_any (is_unknown_sort c) args) (is_unknown_sort c s) k.known)))
-      k.once
+      (sorts-known c n (option_map rep_meaning r) copy args (none_left (list_any (is_unknown_sort c) args) (is_unknown_sort c s) k.known))
+      (sort-known c n (option_map rep_meaning r) copy s (none_right (list_any (is_unknown_sort c) args) (is_unknown_sort c s) k.known)))
+      k.new
       (none_both _ _
-        (concrete-kept c n (option_map rep_meaning r) copy args (none_left (list_any (is_abstract c) args) (not (is_returnable (rep_named c s))) k.represented))
-        (not_true _ (returned-kept c n (option_map rep_meaning r) copy s (false_not _ (none_right (list_any (is_abstract c) args) (not (is_returnable (rep_named c s))) k.represented)))))
+      (concrete-kept c n (option_map rep_meaning r) copy args (none_left (list_any (is_abstract c) args) (not (is_returnable (rep_named c s))) k.represented))
+      (not_true _ (returned-kept c n (option_map rep_meaning r) copy s (false_not _ (none_right (list_any (is_abstract c) args) (not (is_returnable (rep_named c s))) k.represented)))))
       (none_both _ _
-        (none_left (is_among f (called_names c)) (is_among f (copy_names c)) k.apart)
-        (uncopied f c.copies copy (none_right (is_among f (called_names c)) (is_among f (copy_names c)) k.apart) unlike))
-      k.small
+      (none_left (is_among f (called_names c)) (is_among f (copy_names c)) k.apart)
+      (uncopied f c.copies copy (none_right (is_among f (called_names c)) (is_among f (copy_names c)) k.apart) unlike))
+      k.few
 
   -- ---- the copy routine has another name than the symbol's routine or function
   unlike_by_routine : (ρ : Routine) (o : Option (List ℕ)) → copy_clashes (record c { routines = c.routines ++ ρ ∷ [] }) o ≡ false → IsUnlike ρ.name o
@@ -172,36 +172,36 @@ module _ (c : Contents) (n : List ℕ) (r : Option WrittenRep) (copy : Option (L
       (sym (profile-kept m args s kind.Value (none_left (list_any (is_unknown_sort c) args) (is_unknown_sort c s) e) (none_right (list_any (is_unknown_sort c) args) (is_unknown_sort c s) e)))
 
   -- ---- all kinds
-  pub sort-first : (d : Declaration) → DeclaresSymbol d → IsClean c d → IsClean (with_decl c d) (decl.Sort n r copy) → IsSwapped c d (decl.Sort n r copy)
+  pub sort_first-symbol : (d : Declaration) → DeclaresSymbol d → IsFaultless c d → IsFaultless (with_decl c d) (decl.Sort n r copy) → IsSwapped c d (decl.Sort n r copy)
   unfolding with_decl clashes
-  sort-first (decl.Sort m q o) h k l = absurd h
-  sort-first (decl.Function m args s) h k l = record {
+  sort_first-symbol (decl.Sort m q o) h k l = absurd h
+  sort_first-symbol (decl.Function m args s) h k l = record {
     before = sort-before (with_decl c (decl.Function m args s)) refl (λ w e. e) l;
     behind = function-behind m args s k;
     same = function-same m args s k.known;
   }
-  sort-first (decl.Relation m args) h k l = record {
+  sort_first-symbol (decl.Relation m args) h k l = record {
     before = sort-before (with_decl c (decl.Relation m args)) refl (λ w e. e) l;
     behind = relation-behind m args k;
     same = relation-same m args k.known;
   }
-  sort-first (decl.Literal m s v) h k l = record {
+  sort_first-symbol (decl.Literal m s v) h k l = record {
     before = sort-before (with_decl c (decl.Literal m s v)) refl (λ w e. e) l;
     behind = literal-behind m s v k;
     same = literal-same m s v k.known;
   }
-  sort-first (decl.Routine m inputs outputs) h k l =
+  sort_first-symbol (decl.Routine m inputs outputs) h k l =
       let ρ : Routine = record { name = m; inputs = sort_numbers c inputs; outputs = numbers_from (length c.symbols) outputs } in
       record {
         before = sort-before (with_decl c (decl.Routine m inputs outputs)) refl (λ w e. uncalled-routine w c.routines c.functions ρ e) l;
         behind = routine-behind m inputs outputs (unlike_by_routine ρ copy l.apart) k;
         same = routine-same m inputs outputs k.known;
       }
-  sort-first (decl.Value f m args s) h k l =
+  sort_first-symbol (decl.Value f m args s) h k l =
       let φ : FortranFunction = record { name = f; symbol = next_symbol c } in
       record {
         before = sort-before (with_decl c (decl.Value f m args s)) refl (λ w e. uncalled-function w c.routines c.functions φ e) l;
         behind = value-behind f m args s (unlike_by_function φ copy l.apart) k;
         same = value-same f m args s k.known;
       }
-  sort-first (decl.Axiom vs g) h k l = absurd h
+  sort_first-symbol (decl.Axiom vs g) h k l = absurd h

@@ -1,0 +1,5 @@
+use Rattle.am_theory.proofs.ReadSteps.{formed-theory}
+use Rattle.am_theory.proofs.reading.formed_theory.Goals as goal
+
+pub returns : goal.returns
+returns c = formed-theory c.args.bytes.now c.args.forms.now c.forms_theory.result c.requires.formed (c.forms_theory.ensures)
