@@ -1,2 +1,2 @@
-pub mod NameSteps
-pub mod ReadSteps
+mod NameSteps
+mod ReadSteps
