@@ -24,6 +24,10 @@ output_terms d = variables_from (length d.objects) d.outputs
 unfoldable pub goal : Diagram → Clause
 goal d = renumbered (record { literals = map negated d.required; answer = Some (output_terms d) })
 
--- one clause of one literal for each given, without answer
+-- a clause of one literal, without answer
+abbrev pub given_clause : Literal → Clause
+given_clause l = record { literals = l ∷ []; answer = None }
+
+-- one such clause for each given
 unfoldable pub givens : Diagram → List Clause
-givens d = map (λ (l : Literal). record { literals = l ∷ []; answer = None }) d.givens
+givens d = map given_clause d.givens

@@ -46,13 +46,19 @@ barred es = map (λ (e : List ℕ × SortId). record { name = e.0; standing = Ba
 abbrev pub scope_with : Theory → List Bound → Scope
 scope_with t bound = record { names = map (λ (y : Symbol). y.name) t.sig.symbols; symbols = map profile t.sig.symbols; parents = t.sig.parents; bound = bound }
 
--- what names stand for in a requirement: variable n is object n, and the outputs follow the objects
-abbrev pub requirement_scope : Theory → Draft → Scope
-requirement_scope t d = scope_with t (inputs_from 0 d.inputs ++ variables_from 0 d.objects ++ variables_from (length d.objects) d.outputs)
+-- what names stand for in a requirement, beside symbols: variable n is object n, and the outputs follow the objects
+abbrev pub requirement_bound : Draft → List Bound
+requirement_bound d = inputs_from 0 d.inputs ++ variables_from 0 d.objects ++ variables_from (length d.objects) d.outputs
 
--- what names stand for in a given: inputs alone; objects and outputs may not stand there
+abbrev pub requirement_scope : Theory → Draft → Scope
+requirement_scope t d = scope_with t (requirement_bound d)
+
+-- what names stand for in a given, beside symbols: inputs alone; objects and outputs may not stand there
+abbrev pub given_bound : Draft → List Bound
+given_bound d = inputs_from 0 d.inputs ++ barred d.objects ++ barred d.outputs
+
 abbrev pub given_scope : Theory → Draft → Scope
-given_scope t d = scope_with t (inputs_from 0 d.inputs ++ barred d.objects ++ barred d.outputs)
+given_scope t d = scope_with t (given_bound d)
 
 -- the diagram of all declarations: the literals by what the names stand for at the end
 unfoldable pub diagram_of : Theory → Draft → Diagram

@@ -8,12 +8,22 @@
 //! `am_text`, `am_clause`, `am_syntax` and `am_theory`.
 #![tactic(auto)]
 
+mod adding;
+mod clauses;
 mod declaration;
 mod diagram;
 mod draft;
 mod fault;
+mod kinds;
+mod looking;
+mod reading;
+mod scopes;
+mod shapes;
+mod tables;
 
+pub use clauses::{givens_of, goal_of};
 pub use declaration::Declaration;
 pub use diagram::Diagram;
 pub use draft::Draft;
 pub use fault::{DiagramFault, DiagramKind};
+pub use reading::read_diagram;

@@ -78,6 +78,20 @@ pub position_kept : (w : List ℕ) (xs ys : List (List ℕ)) (k : ℕ) → posit
 position_kept w [] ys k h = absurd cc
 position_kept w (x ∷ xs) ys k h = kept_by (bytes_eq w x) w x xs ys (position_of w xs) k refl h (λ j e. position_kept w xs ys j e)
 
+-- ---- a name that is there already changes no place
+again_by : (b : Bool) (q x : List ℕ) (xs : List (List ℕ)) (k : ℕ) → bytes_eq q x ≡ b → position_of x xs ≡ at_place k → position_of q (xs ++ x ∷ []) ≡ position_of q xs
+again_by true q x xs k e h =
+    let there : position_of q xs ≡ at_place k = subst (λ (y : List ℕ). position_of y xs ≡ at_place k) (sym (same q x e)) h in
+    position_kept q xs (x ∷ []) k there ∙ sym there
+again_by false q x xs k e h = miss q x xs e
+
+again_from : (r : Option ℕ) (q x : List ℕ) (xs : List (List ℕ)) → position_of x xs ≡ r → is_some r ≡ true → position_of q (xs ++ x ∷ []) ≡ position_of q xs
+again_from None q x xs e h = absurd cc
+again_from (Some k) q x xs e h = again_by (bytes_eq q x) q x xs k refl e
+
+pub position_again : (q x : List ℕ) (xs : List (List ℕ)) → is_some (position_of x xs) ≡ true → position_of q (xs ++ x ∷ []) ≡ position_of q xs
+position_again q x xs h = again_from (position_of x xs) q x xs refl h
+
 -- ---- what is among the names is found
 among_more : (b : Bool) (r : Option ℕ) → is_some (if b then at_place 0 else more r) ≡ (b || is_some r)
 among_more true r = refl

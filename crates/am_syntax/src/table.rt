@@ -9,7 +9,7 @@ use sqlite_items::Items;
 use std::alloc::Global;
 use std::collections::HashMap;
 
-/// Names in order, each once, with the number of each, from 0: looked up in a map.
+/// Names in order with the number of each, from 0, looked up in a map: that of its first place.
 #[derive(Drop)]
 pub struct NameTable {
     pub names: Items<Name>,
@@ -56,6 +56,20 @@ impl NameTable {
         };
         names.push(Name::new(alloc, name.as_str())?)?;
         numbers.insert(String::from_str(alloc, name.as_str())?, number)?;
+        Ok(NameTable { names, numbers })
+    }
+
+    /// The table with the name at its end, which may stand in it already; no memory too where the number
+    /// would exceed 32 bits.
+    pub fn appending(self, alloc: Global, name: &Name) -> Result<NameTable, NoMemory>
+        ensures { IfOk result (λ t. t.names ≡ self.names ++ name.now ∷ []) }
+    {
+        if self.position(name).is_none() {
+            return self.with(alloc, name);
+        }
+        let NameTable { mut names, numbers } = self;
+        let again = Name::new(alloc, name.as_str())?;
+        names.push(again)?;
         Ok(NameTable { names, numbers })
     }
 

@@ -34,6 +34,7 @@ pub use laws_of_declarations::{
     spelled_declarations_are_read, spelled_declarations_can_be_written,
 };
 pub use reading::read_theory;
+pub use shapes::{list_of, name_of, word_of};
 pub use theory::{Axiom, FortranFunction, LitValue, LiteralDecl, Rep, Routine, Theory};
 pub use trip_laws::canonical_text_is_read;
 pub use writing::write_theory;

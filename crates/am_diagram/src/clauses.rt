@@ -1,0 +1,102 @@
+ghost use Rattle.std.specs.Prelude.{◌≡◌, ◌++◌, IfOk, map};
+ghost use Rattle.am_diagram.specs.Clauses.{negated, variables_from, output_terms, goal, given_clause, givens};
+
+use crate::diagram::Diagram;
+use am_clause::{Clause, clause_variables, renumber};
+use am_term::{Literal, Name, NoMemory, SortId, Term, copy_atom, copy_literal};
+use sqlite_items::Items;
+use std::alloc::Global;
+
+/// The goal: the negated requirements in order, with the outputs as answer, renumbered. No memory too
+/// where there are so many variables that their numbers might exceed 32 bits.
+#[tactic(auto, unfolding(crate::specs::Clauses::goal))]
+pub fn goal_of(alloc: Global, diagram: &Diagram) -> Result<Clause, NoMemory>
+    ensures { IfOk result (λ c. c ≡ goal diagram.now) }
+{
+    let literals = negated_all(alloc, diagram.required.as_slice())?;
+    let answer = Some(output_terms(alloc, diagram)?);
+    let clause = Clause { literals, answer };
+    if clause_variables(alloc, &clause)?.len() >= 4_000_000_000 {
+        return Err(NoMemory);
+    }
+    renumber(alloc, &clause)
+}
+
+fn negated_all(alloc: Global, literals: &[Literal]) -> Result<Items<Literal>, NoMemory>
+    ensures { IfOk result (λ ls. ls ≡ map negated literals.now) }
+{
+    let mut made = Items::new(alloc);
+    for literal in literals {
+        made.push(negated(alloc, literal)?)?;
+    }
+    Ok(made)
+}
+
+fn negated(alloc: Global, literal: &Literal) -> Result<Literal, NoMemory>
+    ensures { IfOk result (λ l. l ≡ negated literal.now) }
+{
+    let atom = copy_atom(alloc, &literal.atom)?;
+    Ok(Literal {
+        positive: !literal.positive,
+        atom,
+    })
+}
+
+fn output_terms(alloc: Global, diagram: &Diagram) -> Result<Items<Term>, NoMemory>
+    ensures { IfOk result (λ ts. ts ≡ output_terms diagram.now) }
+{
+    let Ok(count) = u32::try_from(diagram.objects.len()) else {
+        return Err(NoMemory);
+    };
+    variables_from(alloc, count, diagram.outputs.as_slice())
+}
+
+fn variables_from(
+    alloc: Global,
+    first: u32,
+    variables: &[(Name, SortId)],
+) -> Result<Items<Term>, NoMemory>
+    ensures { IfOk result (λ ts. ts ≡ variables_from first variables.now) }
+{
+    let mut made = Items::new(alloc);
+    let mut number = first;
+    let mut rest = variables;
+    while let [(_, sort), behind @ ..] = rest {
+        made.push(Term::Var {
+            n: number,
+            sort: *sort,
+        })?;
+        number = number.checked_add(1).ok_or(NoMemory)?;
+        rest = behind;
+    }
+    Ok(made)
+}
+
+/// The givens: each a clause of one literal, without answer.
+#[tactic(auto, unfolding(crate::specs::Clauses::givens))]
+pub fn givens_of(alloc: Global, diagram: &Diagram) -> Result<Items<Clause>, NoMemory>
+    ensures { IfOk result (λ cs. cs ≡ givens diagram.now) }
+{
+    given_clauses(alloc, diagram.givens.as_slice())
+}
+
+fn given_clauses(alloc: Global, givens: &[Literal]) -> Result<Items<Clause>, NoMemory>
+    ensures { IfOk result (λ cs. cs ≡ map given_clause givens.now) }
+{
+    let mut made = Items::new(alloc);
+    for given in givens {
+        made.push(given_clause(alloc, given)?)?;
+    }
+    Ok(made)
+}
+
+fn given_clause(alloc: Global, given: &Literal) -> Result<Clause, NoMemory>
+    ensures { IfOk result (λ c. c ≡ given_clause given.now) }
+{
+    let mut literals = Items::new(alloc);
+    literals.push(copy_literal(alloc, given)?)?;
+    Ok(Clause {
+        literals,
+        answer: None,
+    })
+}
