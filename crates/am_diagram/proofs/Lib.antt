@@ -1,0 +1,9 @@
+pub mod DiagramWellFormed
+pub mod FaultlessDeclaration
+pub mod FlawsMoved
+pub mod NamesPushed
+pub mod ReadKeeps
+pub mod ScopeMatches
+pub mod SoundDeclared
+pub mod SoundDraft
+pub mod StandingViews

@@ -12,8 +12,10 @@ mod declaration;
 mod diagram;
 mod draft;
 mod fault;
+mod laws;
 
 pub use declaration::Declaration;
 pub use diagram::Diagram;
 pub use draft::Draft;
 pub use fault::{DiagramFault, DiagramKind};
+pub use laws::diagrams_that_were_read_are_well_formed;
