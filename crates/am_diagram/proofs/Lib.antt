@@ -1,2 +1,11 @@
 mod NameSteps
 mod ReadSteps
+pub mod DiagramWellFormed
+pub mod FaultlessDeclaration
+pub mod FlawsMoved
+pub mod NamesPushed
+pub mod ReadKeeps
+pub mod ScopeMatches
+pub mod SoundDeclared
+pub mod SoundDraft
+pub mod StandingViews

@@ -4,5 +4,6 @@ pub mod Declarations
 pub mod Drafts
 pub mod Facts
 pub mod Faults
+pub mod Laws
 pub mod Limits
 pub mod Reading
