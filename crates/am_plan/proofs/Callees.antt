@@ -17,9 +17,9 @@ use Rattle.am_plan.specs.declared.call.Callee.{Callee}
 use Rattle.am_plan.specs.declared.call.Callee.TheVariants as callee
 use Rattle.am_plan.specs.Calls.{has_symbol, or_else, routine_from, function_from, callee_of}
 use Rattle.am_plan.specs.Plan.{literal_of}
-use Rattle.am_plan.proofs.Belonging.{Among, Different, all-among, among-map, among-flat, different-left, different-right, different-apart}
+use Rattle.am_plan.proofs.Membership.{Among, Different, all-among, among-map, among-flat, different-left, different-right, different-apart}
 use Rattle.am_plan.proofs.Standing.{all-index}
-use Rattle.am_plan.proofs.Calling.{index-among}
+use Rattle.am_plan.proofs.CallStatements.{index-among}
 use Rattle.am_plan.proofs.Copying.{find-among}
 
 number-is : (m n : ℕ) → (m == n) ≡ true → m ≡ n
