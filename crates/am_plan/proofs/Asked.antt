@@ -30,7 +30,7 @@ use Rattle.am_plan.specs.declared.call.PlannedCall.{PlannedCall}
 use Rattle.am_plan.specs.Calls.{under_step, terms_below, completed, callee_of, call_with, call_at, call_of, listed, outputs_at, value_at, made_by}
 use Rattle.am_plan.specs.Plan.{literal_of}
 use Rattle.am_plan.specs.Answers.{is_computable_symbol, ready_step, is_ready}
-use Rattle.am_plan.proofs.Belonging.{Among, all-among, among-map, among-left, among-right, among-split, among-flat}
+use Rattle.am_plan.proofs.Membership.{Among, all-among, among-map, among-left, among-right, among-split, among-flat}
 use Rattle.am_plan.proofs.Standing.{Available}
 use Rattle.am_plan.proofs.Callees.{Computes, callee-computes, no-routine, no-function, contains-among, routine-stands, stands-args, computed-literal, literal-there, literal-found}
 use Rattle.am_plan.proofs.Running.{CalleeFits, AreReady}

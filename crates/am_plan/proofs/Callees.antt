@@ -17,9 +17,9 @@ use Rattle.am_plan.specs.declared.call.Callee.{Callee}
 use Rattle.am_plan.specs.declared.call.Callee.TheVariants as callee
 use Rattle.am_plan.specs.Calls.{has_symbol, or_else, routine_from, function_from, callee_of}
 use Rattle.am_plan.specs.Plan.{literal_of}
-use Rattle.am_plan.proofs.Belonging.{Among, Different, all-among, among-map, among-flat, different-left, different-right, different-apart}
+use Rattle.am_plan.proofs.Membership.{Among, Different, all-among, among-map, among-flat, different-left, different-right, different-apart}
 use Rattle.am_plan.proofs.Standing.{all-index}
-use Rattle.am_plan.proofs.Calling.{index-among}
+use Rattle.am_plan.proofs.CallStatements.{index-among}
 use Rattle.am_plan.proofs.Copying.{find-among}
 
 number-is : (m n : ℕ) → (m == n) ≡ true → m ≡ n
@@ -202,14 +202,6 @@ module _ (t : Theory) (h : WellFormed t) where
       by_literal : (o : Option LiteralDecl) → literal_of t f ≡ o → o ≡ None
       by_literal None e = refl
       by_literal (Some l) e = absurd (true≢false (sym (literal-kind f l y at e) ∙ computed-no_literal f c y at computes))
-
-  -- no literal is computed by a callee
-  pub literal-callee : (f : SymId) (y : Symbol) → slice_get t.sig.symbols f.0 ≡ Some y → y.kind ≡ kind.Literal → callee_of t f ≡ None
-  literal-callee f y at is = by_callee (callee_of t f) refl
-    where
-      by_callee : (o : Option Callee) → callee_of t f ≡ o → o ≡ None
-      by_callee None e = refl
-      by_callee (Some c) e = absurd (true≢false (sym (ap is_literal is) ∙ computed-no_literal f c y at (callee-computes t f c e)))
 
   -- a literal is found under its number
   pub literal-there : (f : SymId) (y : Symbol) → slice_get t.sig.symbols f.0 ≡ Some y → y.kind ≡ kind.Literal → (l : LiteralDecl) × (literal_of t f ≡ Some l)

@@ -41,10 +41,10 @@ use Rattle.am_exec.specs.Effects.{read_by_call, set_by_call, call_terms, call_so
 use Rattle.am_exec.specs.ItemFaults.{is_unknown_call, call_count, or_later, first_unset, fits_call, is_copied_by, is_name_of, is_scalar_rep, is_scalar_sort, is_target, are_targets, lacks_dummy, is_large}
 use Rattle.am_exec.proofs.Held.{eq_is, eq_same, or_both}
 use Rattle.am_plan.specs.Plan.{written_value, is_array_rep, copy_name, copy_to}
-use Rattle.am_plan.proofs.Belonging.{Among, all-among, among-map, among-left, among-right}
+use Rattle.am_plan.proofs.Membership.{Among, all-among, among-map, among-left, among-right}
 use Rattle.am_plan.proofs.Holding.{names_in, among-is, none-held}
 use Rattle.am_plan.proofs.Standing.{StandsFor, all-index, literal-at, literal-sorted}
-use Rattle.am_plan.proofs.Calling.{Puts}
+use Rattle.am_plan.proofs.CallStatements.{Puts}
 
 -- what is found is there and passes
 pub find-among : {A : Type 0} (p : A → Bool) (xs : List A) (x : A) → find p xs ≡ Some x → Among x xs × (p x ≡ true)

@@ -9,7 +9,7 @@ use Rattle.am_term.specs.NameLists.{is_among, are_distinct}
 use Rattle.am_term.proofs.Tests.{and_both, not_false, fails, or_cases}
 use Rattle.am_exec.specs.States.{Store, term_held, is_held, inputs_from, entries}
 use Rattle.am_exec.proofs.Held.{eq_is, eq_same, or_both}
-use Rattle.am_plan.proofs.Belonging.{Among, Different, among-map}
+use Rattle.am_plan.proofs.Membership.{Among, Different, among-map}
 
 -- names
 abbrev pub names_in : Store → List (List ℕ)

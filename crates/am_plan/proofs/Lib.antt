@@ -1,17 +1,16 @@
+pub mod AnswerGiven
 pub mod Asked
-pub mod Belonging
+pub mod CallStatements
 pub mod Callees
-pub mod Calling
 pub mod Copying
 pub mod Counted
-pub mod Declaring
 pub mod Going
 pub mod Holding
 pub mod Locals
-pub mod Naming
+pub mod Membership
 pub mod Needed
 pub mod Once
-pub mod Planned
+pub mod PlanDeclared
 pub mod Running
 pub mod Standing
 pub mod Asking
@@ -22,3 +21,4 @@ pub mod Kept
 pub mod Keeping
 pub mod Sizes
 pub mod UnitPlanned
+pub mod TermNames

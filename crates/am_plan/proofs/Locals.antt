@@ -5,9 +5,9 @@ use Rattle.am_term.specs.declared.term.Term.{Term}
 use Rattle.am_exec.specs.States.{Store}
 use Rattle.am_plan.specs.Names.{output_for, Named, local_by, locals}
 use Rattle.am_plan.specs.Plan.{names_of, is_set}
-use Rattle.am_plan.proofs.Belonging.{Among, Different, among-map, map-among, among-left, among-right}
+use Rattle.am_plan.proofs.Membership.{Among, Different, among-map, map-among, among-left, among-right}
 use Rattle.am_plan.proofs.Holding.{names_in}
-use Rattle.am_plan.proofs.Naming.{Answered}
+use Rattle.am_plan.proofs.TermNames.{Answered}
 
 module _ (os : List (List ℕ × SortId)) (answer : List Term) where
   pub locals-so : (e : Named) (es : List Named) → Among e (locals os answer es) → Among e es × (output_for e.1 os answer ≡ None)

@@ -26,13 +26,13 @@ use Rattle.am_plan.specs.Calls.{completed, callee_of, call_with, listed, same_ca
 use Rattle.am_plan.specs.Names.{Named, named}
 use Rattle.am_plan.specs.Plan.{literal_of, statement_of, routine_call, function_call}
 use Rattle.am_plan.specs.Laws.{are_different, EachCallOnce, IsNeeded, AreNeeded, NothingNeedless}
-use Rattle.am_plan.proofs.Belonging.{Among, Different, all-among, among-all, among-left, among-right, among-split, different-apart}
+use Rattle.am_plan.proofs.Membership.{Among, Different, all-among, among-all, among-left, among-right, among-split, different-apart}
 use Rattle.am_plan.proofs.Standing.{Available, all-index}
 use Rattle.am_plan.proofs.Callees.{Computes, callee-computes, routine-stands, computed-literal}
 use Rattle.am_plan.proofs.Running.{CalleeFits, AreReady}
 use Rattle.am_plan.proofs.Asked.{IsFine, HasParts, parts, is_ready-Var, asks, asks-append, asks-In, asks-App, available-more, callee-makes, uncalled-none}
 use Rattle.am_plan.proofs.Once.{same_call-is, same_call-refl, distinct-from, distinct-among, calls-ready, calls-differ, ready-fit, makes-so, made-differ}
-use Rattle.am_plan.proofs.Planned.{serve-fine}
+use Rattle.am_plan.proofs.AnswerGiven.{serve-fine}
 
 -- ---- once
 among-same : (c : PlannedCall) (cs : List PlannedCall) → Among c cs → among same_call c cs ≡ true

@@ -30,10 +30,10 @@ use Rattle.am_plan.specs.declared.call.PlannedCall.{PlannedCall}
 use Rattle.am_plan.specs.Calls.{call_with, outputs_at, value_at, made_by}
 use Rattle.am_plan.specs.Names.{Named, name_of}
 use Rattle.am_plan.specs.Plan.{operand_for, routine_call, function_call, first_name, statement_of, is_set, copy_to, copies}
-use Rattle.am_plan.proofs.Belonging.{Among, Different, among-all, all-among, among-map, among-left, among-right, different-left, different-right, different-apart}
+use Rattle.am_plan.proofs.Membership.{Among, Different, among-all, all-among, among-map, among-left, among-right, different-left, different-right, different-apart}
 use Rattle.am_plan.proofs.Holding.{names_in, held-there, inputs-among}
 use Rattle.am_plan.proofs.Standing.{Available, StandsFor, operand-stands}
-use Rattle.am_plan.proofs.Calling.{pairs, targets_of, pairs-names, routine-puts, function-puts}
+use Rattle.am_plan.proofs.CallStatements.{pairs, targets_of, pairs-names, routine-puts, function-puts}
 use Rattle.am_plan.proofs.Copying.{Copies, copy-puts}
 use Rattle.am_plan.proofs.Locals.{copied}
 use Rattle.am_plan.proofs.Going.{Goes, goes-append, goes-one}

@@ -29,7 +29,7 @@ use Rattle.am_exec.specs.ItemFaults.{unset_name, or_later, first_unset, fits_ope
 use Rattle.am_exec.proofs.Held.{eq_same}
 use Rattle.am_plan.specs.Names.{Named, name_of}
 use Rattle.am_plan.specs.Plan.{names_of, written_value, literal_or, literal_of, operand_at, operand_for}
-use Rattle.am_plan.proofs.Belonging.{Among, Different}
+use Rattle.am_plan.proofs.Membership.{Among, Different}
 use Rattle.am_plan.proofs.Holding.{names_in, held-there}
 
 -- the first that passes

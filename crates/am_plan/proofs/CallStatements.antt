@@ -33,7 +33,7 @@ use Rattle.am_exec.specs.ItemFaults.{is_unknown_call, call_count, function_count
 use Rattle.am_exec.proofs.Held.{eq_is, eq_same, or_both}
 use Rattle.am_exec.proofs.Passing.{Passes}
 use Rattle.am_exec.proofs.Targets.{outputs-small}
-use Rattle.am_plan.proofs.Belonging.{Among, Different, among-map, different-left, different-right}
+use Rattle.am_plan.proofs.Membership.{Among, Different, among-map, different-left, different-right}
 use Rattle.am_plan.proofs.Holding.{names_in, among-is, different-distinct, none-held, entries-zip}
 use Rattle.am_plan.proofs.Standing.{StandsFor, operands-set, operands-fit, operands-are}
 

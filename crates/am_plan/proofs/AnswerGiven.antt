@@ -38,10 +38,10 @@ use Rattle.am_plan.specs.Names.{output_for, Named, named_from, named, locals, na
 use Rattle.am_plan.specs.Plan.{IsPlan, names_of, statement_of, copies, is_set, function_at, functions_used}
 use Rattle.am_plan.specs.Answers.{Serves, AllServe, IsAnswerFor}
 use Rattle.am_plan.specs.Laws.{PlanGivesAnswer}
-use Rattle.am_plan.proofs.Belonging.{Among, Different, all-among, among-map, map-among, among-left, among-right, among-split, flat-among, among-flat, different-append}
+use Rattle.am_plan.proofs.Membership.{Among, Different, all-among, among-map, map-among, among-left, among-right, among-split, flat-among, among-flat, different-append}
 use Rattle.am_plan.proofs.Holding.{names_in, is_among-so, among-is, inputs-names}
 use Rattle.am_plan.proofs.Standing.{Available, all-index}
-use Rattle.am_plan.proofs.Calling.{pairs, index-among, function-named}
+use Rattle.am_plan.proofs.CallStatements.{pairs, index-among, function-named}
 use Rattle.am_plan.proofs.Copying.{place-sort}
 use Rattle.am_plan.proofs.Callees.{Computes, routine-stands}
 use Rattle.am_plan.proofs.Going.{Goes, goes-append, terms-go}
@@ -49,9 +49,9 @@ use Rattle.am_plan.proofs.Running.{CalleeFits, AreReady, after, after-keeps, cal
 use Rattle.am_plan.proofs.Asked.{IsFine}
 use Rattle.am_plan.proofs.Once.{distinct-from, distinct-has, distinct-names, calls-ready, answers-available, ready-fit, makes-so, opened, made-differ}
 use Rattle.am_plan.proofs.Counted.{made-few}
-use Rattle.am_plan.proofs.Naming.{local-is, Answered, answered-output, answered-name, answered-one, output-answered, IsNamed, named-terms, all-named, names-differ, name-own, pairs-are}
+use Rattle.am_plan.proofs.TermNames.{local-is, Answered, answered-output, answered-name, answered-one, output-answered, IsNamed, named-terms, all-named, names-differ, name-own, pairs-are}
 use Rattle.am_plan.proofs.Locals.{locals-so, locals-among, locals-differ, copied, copied-so, copied-there, copied-differ}
-use Rattle.am_plan.proofs.Declaring.{head-good, none-lacks, declarations-good, inputs-differ, outputs-differ, input-no_output, output-target, local-target, function-declared}
+use Rattle.am_plan.proofs.PlanDeclared.{head-good, none-lacks, declarations-good, inputs-differ, outputs-differ, input-no_output, output-target, local-target, function-declared}
 
 -- ---- what serves
 module _ (t : Theory) (d : Diagram) where

@@ -33,11 +33,11 @@ use Rattle.am_exec.specs.Terms.{bad_declaration}
 use Rattle.am_exec.proofs.Held.{eq_is, eq_same, or_both}
 use Rattle.am_plan.specs.Names.{local_name, Named}
 use Rattle.am_plan.specs.Plan.{names_of, rep_or_double, dummy_decl, head_of, rep_of_sort, rep_of_head, local_decl, function_decl, arguments}
-use Rattle.am_plan.proofs.Belonging.{Among, Different, all-among, among-all, among-map, map-among, among-left, among-right, among-split, different-left, different-right, different-apart, different-append}
+use Rattle.am_plan.proofs.Membership.{Among, Different, all-among, among-all, among-map, map-among, among-left, among-right, among-split, different-left, different-right, different-apart, different-append}
 use Rattle.am_plan.proofs.Holding.{not_among-is, among-is}
-use Rattle.am_plan.proofs.Calling.{find-named, distinct-different}
+use Rattle.am_plan.proofs.CallStatements.{find-named, distinct-different}
 use Rattle.am_plan.proofs.Copying.{find-among}
-use Rattle.am_plan.proofs.Naming.{local-is}
+use Rattle.am_plan.proofs.TermNames.{local-is}
 
 -- ---- types
 number-same : (n : ℕ) → (n == n) ≡ true

@@ -1,5 +1,5 @@
 -- Members of lists, and lists whose members differ.
-use Rattle.std.proofs.Common.{◌≡◌, ◌∙◌, ◌⊎◌, inl, inr, ◌++◌, refl, sym, ap, subst, List, [], ◌∷◌, map}
+use Rattle.std.proofs.Common.{◌≡◌, ◌⊎◌, inl, inr, ◌++◌, refl, sym, ap, subst, List, [], ◌∷◌, map}
 use Rattle.std.specs.List.{flat_map, AllByRecursion}
 
 -- one of these
@@ -91,11 +91,3 @@ different-map {A = A} {B = B} f (x ∷ xs) one h = (λ g. new (map-among f (f x)
   where
     new : (y : A) × Among y xs × (f x ≡ f y) → ⊥
     new r = h.0 (subst (λ (w : A). Among w xs) (sym (one x r.0 (inl refl) (inr r.1) r.2)) r.1)
-
--- members with one image are one, where images differ
-pub different-one : {A B : Type 0} (f : A → B) (x y : A) (xs : List A) → Different (map f xs) → Among x xs → Among y xs → f x ≡ f y → x ≡ y
-different-one {A = A} {B = B} f x y [] h a b e = absurd a
-different-one {A = A} {B = B} f x y (z ∷ xs) h (inl a) (inl b) e = a ∙ sym b
-different-one {A = A} {B = B} f x y (z ∷ xs) h (inl a) (inr b) e = absurd (h.0 (subst (λ (w : B). Among w (map f xs)) (sym e ∙ ap f a) (among-map f y xs b)))
-different-one {A = A} {B = B} f x y (z ∷ xs) h (inr a) (inl b) e = absurd (h.0 (subst (λ (w : B). Among w (map f xs)) (e ∙ ap f b) (among-map f x xs a)))
-different-one {A = A} {B = B} f x y (z ∷ xs) h (inr a) (inr b) e = different-one f x y xs h.1 a b e
