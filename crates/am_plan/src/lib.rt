@@ -2,7 +2,7 @@
 //!
 //! `specs/Calls.antt` says which calls an answer asks for, `Names` what their outputs are called, `Plan`
 //! which subroutine that gives, `Answers` which answers there is one for. The crate rests on `am_term`,
-//! `am_theory`, `am_diagram`, `am_fortran`, `am_world` and `am_exec`.
+//! `am_clause`, `am_theory`, `am_diagram`, `am_fortran`, `am_world` and `am_exec`.
 #![tactic(auto)]
 
 mod call;
@@ -17,6 +17,4 @@ mod stating;
 
 pub use call::{Callee, PlannedCall};
 pub use calling::{callee_of, calls};
-pub use named_terms::{NamedTerms, name_of, sized};
-pub use naming::{local_name, made, made_by, named, output_for};
 pub use planning::plan;
