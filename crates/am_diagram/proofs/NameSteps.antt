@@ -9,7 +9,8 @@ use Rattle.std.proofs.lemmas.List.Folds.{list_any-append}
 use Rattle.am_term.specs.declared.id.SortId.{SortId}
 use Rattle.am_term.specs.NameLists.{is_among}
 use Rattle.am_diagram.specs.declared.draft.Draft.{Draft}
-use Rattle.am_diagram.specs.Faults.{names_of, used_names}
+use Rattle.am_diagram.specs.Listed.{names_of}
+use Rattle.am_diagram.specs.Faults.{used_names}
 
 -- a test of the names
 pub any-names : (p : List ℕ → Bool) (es : List (List ℕ × SortId)) → list_any p (names_of es) ≡ list_any (λ (e : List ℕ × SortId). p e.0) es

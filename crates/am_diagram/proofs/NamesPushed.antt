@@ -15,8 +15,9 @@ use Rattle.am_syntax.proofs.Positions.{position_among, same}
 use Rattle.am_theory.specs.declared.theory.Theory.{Theory}
 use Rattle.am_theory.proofs.Appends.{distinct-insert}
 use Rattle.am_diagram.specs.declared.draft.Draft.{Draft}
+use Rattle.am_diagram.specs.Listed.{names_of}
 use Rattle.am_diagram.specs.Drafts.{scope_with, requirement_scope, given_scope}
-use Rattle.am_diagram.specs.Faults.{names_of, used_names}
+use Rattle.am_diagram.specs.Faults.{used_names}
 use Rattle.am_diagram.proofs.FlawsMoved.{Keeps}
 use Rattle.am_diagram.proofs.SoundDraft.{symbol_names}
 use Rattle.am_diagram.proofs.StandingViews.{Entry, view, unbound_by, shown, hidden, look, or_view, stands, view-required, view-given, look-push, stands-none}

@@ -17,8 +17,9 @@ use Rattle.am_theory.proofs.SortNames.{sort-there, concrete-there}
 use Rattle.am_diagram.specs.declared.declaration.Declaration.{Declaration}
 use Rattle.am_diagram.specs.declared.declaration.Declaration.TheVariants.{Input, Object, Output, Given, Require}
 use Rattle.am_diagram.specs.declared.draft.Draft.{Draft}
+use Rattle.am_diagram.specs.Listed.{names_of}
 use Rattle.am_diagram.specs.Drafts.{typed, with_decl, given_scope, requirement_scope}
-use Rattle.am_diagram.specs.Faults.{names_of, used_names, is_taken, is_reserved, has_unknown_name, is_twice, has_bad_sort, has_bad_arity, is_not_concrete, has_bad_fortran_name, has_reserved_name, has_unbound, is_over_limit}
+use Rattle.am_diagram.specs.Faults.{used_names, is_taken, is_reserved, has_unknown_name, is_twice, has_bad_sort, has_bad_arity, is_not_concrete, has_bad_fortran_name, has_reserved_name, has_unbound, is_over_limit}
 use Rattle.am_diagram.specs.Limits.{dummy_limit, object_limit, given_limit, requirement_limit}
 use Rattle.am_diagram.proofs.FaultlessDeclaration.{IsFaultless, free-by}
 use Rattle.am_diagram.proofs.FlawsMoved.{Keeps, atom-kept}

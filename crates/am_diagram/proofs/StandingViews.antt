@@ -12,8 +12,8 @@ use Rattle.am_syntax.specs.Flaws.{is_relation, is_lone_relation, is_miscounted, 
 use Rattle.am_syntax.proofs.Among.{none_left, none_right}
 use Rattle.am_theory.specs.declared.theory.Theory.{Theory}
 use Rattle.am_diagram.specs.declared.draft.Draft.{Draft}
+use Rattle.am_diagram.specs.Listed.{names_of}
 use Rattle.am_diagram.specs.Drafts.{inputs_from, variables_from, barred, requirement_scope, given_scope}
-use Rattle.am_diagram.specs.Faults.{names_of}
 
 -- the sort of what a name stands for beside a symbol; no sort where it may not stand there
 abbrev pub View : Type 0

@@ -15,11 +15,8 @@ use Rattle.am_theory.specs.declared.theory.Theory.{Theory}
 use Rattle.am_theory.specs.Facts.{IsSort, IsConcrete}
 use Rattle.am_theory.specs.Lookups.{fortran_names}
 use Rattle.am_diagram.specs.declared.diagram.Diagram.{Diagram}
-use Rattle.am_diagram.specs.Faults.{names_of}
+use Rattle.am_diagram.specs.Listed.{names_of, sorts_in}
 use Rattle.am_diagram.specs.Limits.{dummy_limit, object_limit, given_limit, requirement_limit}
-
-abbrev pub sorts_of : List (List ℕ × SortId) → List SortId
-sorts_of = map (λ (e : List ℕ × SortId). e.1)
 
 -- all names of the diagram
 abbrev pub all_names : Diagram → List (List ℕ)
@@ -62,11 +59,11 @@ pub record WellFormed (t : Theory) (d : Diagram) : Type 0 where
   pub distinct : IsTrue (are_distinct (all_names d))
   pub apart : AllByRecursion (λ n. is_among n (map (λ (y : Symbol). y.name) t.sig.symbols) ≡ false) (names_of d.inputs ++ names_of d.objects ++ names_of d.outputs)
   -- sorts
-  pub inputs_concrete : AllByRecursion (IsConcrete t) (sorts_of d.inputs)
-  pub outputs_concrete : AllByRecursion (IsConcrete t) (sorts_of d.outputs)
-  pub objects_sorted : AllByRecursion (IsSort t) (sorts_of d.objects)
+  pub inputs_concrete : AllByRecursion (IsConcrete t) (sorts_in d.inputs)
+  pub outputs_concrete : AllByRecursion (IsConcrete t) (sorts_in d.outputs)
+  pub objects_sorted : AllByRecursion (IsSort t) (sorts_in d.objects)
   -- literals
-  pub givens_sorted : AllByRecursion (λ (l : Literal). IsTrue (is_sorted_literal t.sig (sorts_of d.inputs) l)) d.givens
+  pub givens_sorted : AllByRecursion (λ (l : Literal). IsTrue (is_sorted_literal t.sig (sorts_in d.inputs) l)) d.givens
   pub givens_closed : AllByRecursion (λ (l : Literal). NoVariables l.atom) d.givens
-  pub required_sorted : AllByRecursion (λ (l : Literal). IsTrue (is_sorted_literal t.sig (sorts_of d.inputs) l)) d.required
-  pub required_numbered : AllByRecursion (λ (l : Literal). HaveSorts (sorts_of (d.objects ++ d.outputs)) l.atom) d.required
+  pub required_sorted : AllByRecursion (λ (l : Literal). IsTrue (is_sorted_literal t.sig (sorts_in d.inputs) l)) d.required
+  pub required_numbered : AllByRecursion (λ (l : Literal). HaveSorts (sorts_in (d.objects ++ d.outputs)) l.atom) d.required

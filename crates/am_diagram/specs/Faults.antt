@@ -20,6 +20,7 @@ use Rattle.am_diagram.specs.declared.draft.Draft.{Draft}
 use Rattle.am_diagram.specs.declared.fault.DiagramKind.{DiagramKind}
 use Rattle.am_diagram.specs.declared.fault.DiagramKind.TheVariants.{UnknownName, Twice, BadSort, BadArity, NotConcrete, BadFortranName, ReservedName, Unbound, Limit, NoOutput, NoRequire}
 use Rattle.am_diagram.specs.Drafts.{requirement_scope, given_scope}
+use Rattle.am_diagram.specs.Listed.{names_of}
 use Rattle.am_diagram.specs.Limits.{dummy_limit, object_limit, given_limit, requirement_limit}
 
 -- a literal as a given or as a requirement has a flaw of terms and atoms
@@ -46,9 +47,6 @@ has_unknown_name t d (Given l) = given_has t d flaw.UnknownName l
 has_unknown_name t d (Require l) = requirement_has t d flaw.UnknownName l
 
 -- ---- Twice: an input, object or output has the name of an earlier one, of the diagram, or of a symbol of the theory
-abbrev pub names_of : List (List ℕ × SortId) → List (List ℕ)
-names_of = map (λ (e : List ℕ × SortId). e.0)
-
 -- the names that the diagram has so far
 abbrev pub used_names : Draft → List (List ℕ)
 used_names d = d.name ∷ names_of d.inputs ++ names_of d.objects ++ names_of d.outputs

@@ -1,4 +1,3 @@
-pub mod Canonical
 pub mod Clauses
 pub mod Declarations
 pub mod Drafts
@@ -6,4 +5,5 @@ pub mod Facts
 pub mod Faults
 pub mod Laws
 pub mod Limits
+pub mod Listed
 pub mod Reading

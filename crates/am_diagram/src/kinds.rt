@@ -1,7 +1,8 @@
 ghost use Rattle.std.specs.Prelude.{◌≡◌, ◌+◌, IfOk, length, nat_lt};
 ghost use Rattle.am_term.specs.NameLists.{is_among};
+ghost use Rattle.am_diagram.specs.Listed.{names_of};
 ghost use Rattle.am_diagram.specs.Limits.{dummy_limit};
-ghost use Rattle.am_diagram.specs.Faults.{names_of, used_names, is_taken, given_has, requirement_has, literal_has, has_unknown_name, is_twice, is_not_concrete, has_bad_fortran_name, has_reserved_name, is_over_limit, first_kind, head_kind, end_kind};
+ghost use Rattle.am_diagram.specs.Faults.{used_names, is_taken, given_has, requirement_has, literal_has, has_unknown_name, is_twice, is_not_concrete, has_bad_fortran_name, has_reserved_name, is_over_limit, first_kind, head_kind, end_kind};
 
 use crate::declaration::Declaration;
 use crate::draft::Draft;

@@ -8,7 +8,7 @@ use Rattle.am_term.specs.declared.term.Term.{Term}
 use Rattle.am_term.proofs.Tests.{and_right}
 use Rattle.am_exec.specs.declared.fault.ExecFault.{ExecFault}
 use Rattle.am_diagram.specs.declared.diagram.Diagram.{Diagram}
-use Rattle.am_diagram.specs.Canonical.{names_of}
+use Rattle.am_diagram.specs.Listed.{names_of}
 use Rattle.am_fortran.specs.declared.unit.Unit.{Unit as Subroutine}
 use Rattle.am_exec.specs.Lawful.{dummies_of}
 use Rattle.am_exec.specs.ItemFaults.{same_names, is_bad_head}

@@ -7,7 +7,7 @@ use Rattle.am_term.specs.NameLists.{are_distinct}
 use Rattle.am_term.proofs.Tests.{false_not}
 use Rattle.am_theory.specs.declared.theory.Theory.{Theory}
 use Rattle.am_diagram.specs.declared.diagram.Diagram.{Diagram}
-use Rattle.am_diagram.specs.Canonical.{names_of, sorts_in}
+use Rattle.am_diagram.specs.Listed.{names_of, sorts_in}
 use Rattle.am_fortran.specs.declared.statement.Statement.{Statement}
 use Rattle.am_fortran.specs.declared.unit.Unit.{Unit as Subroutine}
 use Rattle.am_exec.specs.declared.fault.ExecKind.{ExecKind}

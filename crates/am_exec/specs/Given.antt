@@ -5,7 +5,7 @@ use Rattle.am_term.specs.declared.term.Literal.{Literal}
 use Rattle.am_world.specs.Interpretation.{Interpretation, Members}
 use Rattle.am_world.specs.Value.{Assignment, literal_truth}
 use Rattle.am_diagram.specs.declared.diagram.Diagram.{Diagram}
-use Rattle.am_diagram.specs.Canonical.{sorts_in}
+use Rattle.am_diagram.specs.Listed.{sorts_in}
 
 -- variable n is the n-th of these numbers
 abbrev pub numbered : List ℕ → Assignment

@@ -6,7 +6,7 @@ use Rattle.am_world.specs.Value.{Assignment, values}
 use Rattle.am_theory.specs.declared.theory.Theory.{Theory}
 use Rattle.am_theory.specs.Facts.{WellFormed}
 use Rattle.am_diagram.specs.declared.diagram.Diagram.{Diagram}
-use Rattle.am_diagram.specs.Canonical.{names_of, sorts_in}
+use Rattle.am_diagram.specs.Listed.{names_of, sorts_in}
 use Rattle.am_fortran.specs.declared.unit.Unit.{Unit as Subroutine}
 use Rattle.am_exec.specs.Given.{Given, Spec, numbered}
 use Rattle.am_exec.specs.Run.{State, held, run}

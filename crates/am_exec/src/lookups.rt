@@ -3,7 +3,7 @@ ghost use Rattle.am_term.specs.NameLists.{is_among};
 ghost use Rattle.am_theory.specs.Lookups.{routine_named as routine_with, function_named as function_with, rep_of as rep_at, copy_of as copy_at, result_sort as sort_given, argument_sorts as sorts_taken, fortran_names, listed_name};
 ghost use Rattle.am_theory.specs.declared.theory.Routine.{Routine};
 ghost use Rattle.am_theory.specs.declared.theory.FortranFunction.{FortranFunction};
-ghost use Rattle.am_diagram.specs.Canonical.{names_of};
+ghost use Rattle.am_diagram.specs.Listed.{names_of};
 ghost use Rattle.am_exec.specs.Literals.{literal_at as literal_with, sort_fits as is_sort_fitting, writes as is_written};
 ghost use Rattle.am_exec.specs.Run.{is_copy as is_copy_name, sort_listed as sort_under};
 ghost use Rattle.am_exec.specs.ItemFaults.{declared_names};

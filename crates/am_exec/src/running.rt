@@ -1,5 +1,5 @@
 ghost use Rattle.std.specs.Prelude.{◌≡◌, ◌+◌, ◌-◌, ◌<◌, ◌≤◌, ◌^◌, length, IfOk};
-ghost use Rattle.am_diagram.specs.Canonical.{names_of, sorts_in};
+ghost use Rattle.am_diagram.specs.Listed.{names_of, sorts_in};
 ghost use Rattle.am_exec.specs.ItemFaults.{statement_kind as first_kind};
 ghost use Rattle.am_exec.specs.States.{inputs_held as held_at_start};
 ghost use Rattle.am_exec.specs.Effects.{put as put_all};

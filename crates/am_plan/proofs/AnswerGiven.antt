@@ -19,8 +19,8 @@ use Rattle.am_theory.specs.declared.theory.Theory.{Theory}
 use Rattle.am_theory.specs.Lookups.{rep_of, result_of, result_sort, function_named}
 use Rattle.am_theory.specs.Facts.{WellFormed as WellFormedTheory, IsConcrete, IsFunction}
 use Rattle.am_diagram.specs.declared.diagram.Diagram.{Diagram}
-use Rattle.am_diagram.specs.Canonical.{sorts_in}
-use Rattle.am_diagram.specs.Facts.{WellFormed, IsFree, sorts_of}
+use Rattle.am_diagram.specs.Listed.{sorts_in}
+use Rattle.am_diagram.specs.Facts.{WellFormed, IsFree}
 use Rattle.am_fortran.specs.declared.statement.Statement.{Statement}
 use Rattle.am_fortran.specs.declared.unit.Unit.{Unit as Subroutine}
 use Rattle.am_exec.specs.Run.{sort_listed}
@@ -244,7 +244,7 @@ module _ (t : Theory) (d : Diagram) (answer : List Term) (u : Subroutine) (h : W
 
   -- ---- copies
   output-concrete : (o : List ℕ × SortId) → Among o d.outputs → is_some (rep_of t o.1) ≡ true
-  output-concrete o a = all-among (IsConcrete t) o.1 (sorts_of d.outputs) wd.outputs_concrete (among-map (λ (q : List ℕ × SortId). q.1) o d.outputs a)
+  output-concrete o a = all-among (IsConcrete t) o.1 (sorts_in d.outputs) wd.outputs_concrete (among-map (λ (q : List ℕ × SortId). q.1) o d.outputs a)
 
   small_enough : (n : ℕ) → n ≤ 400 → n ≤ 10000
   small_enough n e = omega arith

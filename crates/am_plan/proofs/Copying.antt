@@ -26,7 +26,7 @@ use Rattle.am_theory.specs.Lookups.{known, rep_of, copy_of, result_of, result_so
 use Rattle.am_theory.specs.Facts.{WellFormed, IsLiteral, called_names, is_array, is_in_range, copies_when_array, is_represented}
 use Rattle.am_theory.specs.Faults.{suits}
 use Rattle.am_diagram.specs.declared.diagram.Diagram.{Diagram}
-use Rattle.am_diagram.specs.Canonical.{sorts_in}
+use Rattle.am_diagram.specs.Listed.{sorts_in}
 use Rattle.am_fortran.specs.declared.statement.Operand.{Operand}
 use Rattle.am_fortran.specs.declared.statement.Operand.TheVariants as operand
 use Rattle.am_fortran.specs.declared.statement.Statement.{Statement}

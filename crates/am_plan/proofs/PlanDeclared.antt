@@ -21,7 +21,8 @@ use Rattle.am_theory.specs.Lookups.{rep_of, result_of, result_sort, function_nam
 use Rattle.am_theory.specs.Faults.{is_free_name}
 use Rattle.am_theory.specs.Facts.{WellFormed, IsConcrete, IsRoutine, IsFunction}
 use Rattle.am_diagram.specs.declared.diagram.Diagram.{Diagram}
-use Rattle.am_diagram.specs.Facts.{WellFormed as WellFormedDiagram, IsFree, sorts_of, all_names}
+use Rattle.am_diagram.specs.Listed.{sorts_in}
+use Rattle.am_diagram.specs.Facts.{WellFormed as WellFormedDiagram, IsFree, all_names}
 use Rattle.am_fortran.specs.declared.statement.FortranType.{FortranType}
 use Rattle.am_fortran.specs.declared.statement.FortranType.TheVariants as fortran
 use Rattle.am_fortran.specs.declared.statement.Decl.{Decl}
@@ -264,8 +265,8 @@ module _ (t : Theory) (h : WellFormed t) where
       dummy-concrete e a = by_side (among-split e d.inputs d.outputs a)
         where
           by_side : Among e d.inputs ⊎ Among e d.outputs → is_some (rep_of t e.1) ≡ true
-          by_side (inl b) = all-among (IsConcrete t) e.1 (sorts_of d.inputs) wd.inputs_concrete (among-map (λ (q : List ℕ × SortId). q.1) e d.inputs b)
-          by_side (inr b) = all-among (IsConcrete t) e.1 (sorts_of d.outputs) wd.outputs_concrete (among-map (λ (q : List ℕ × SortId). q.1) e d.outputs b)
+          by_side (inl b) = all-among (IsConcrete t) e.1 (sorts_in d.inputs) wd.inputs_concrete (among-map (λ (q : List ℕ × SortId). q.1) e d.inputs b)
+          by_side (inr b) = all-among (IsConcrete t) e.1 (sorts_in d.outputs) wd.outputs_concrete (among-map (λ (q : List ℕ × SortId). q.1) e d.outputs b)
 
       dummy-good : (e : List ℕ × SortId) → Among e (arguments d) → declares t u (Some e) (dummy_decl t e) ≡ true
       dummy-good e a = and_both (bytes_eq e.0 e.0) (have_one_type (Some (dummy_type (rep_or_double (rep_of t e.1)))) (type_by dummy_type (rep_of t e.1))) (eq_same e.0)

@@ -2,7 +2,8 @@
 //!
 //! `specs/Calls.antt` says which calls an answer asks for, `Names` what their outputs are called, `Plan`
 //! which subroutine that gives, `Answers` which answers there is one for, `Laws` that its run by terms gives
-//! the answer. The crate rests on `am_term`, `am_theory`, `am_diagram`, `am_fortran`, `am_world` and `am_exec`.
+//! the answer. The crate rests on `am_term`, `am_clause`, `am_theory`, `am_diagram`, `am_fortran`, `am_world`
+//! and `am_exec`.
 #![tactic(auto)]
 
 mod call;

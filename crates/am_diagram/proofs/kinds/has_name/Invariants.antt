@@ -1,6 +1,6 @@
+use Rattle.am_diagram.specs.Listed.{names_of}
 use Rattle.std.proofs.Common.{◌≡◌, length}
 use Rattle.am_term.specs.NameLists.{is_among}
-use Rattle.am_diagram.specs.Faults.{names_of}
 use Rattle.am_diagram.proofs.kinds.has_name.Given as goal
 
 -- what is left decides

@@ -1,5 +1,5 @@
 use Rattle.std.proofs.Common.{◌≡◌, length}
-use Rattle.am_diagram.specs.Canonical.{names_of}
+use Rattle.am_diagram.specs.Listed.{names_of}
 use Rattle.am_exec.specs.ItemFaults.{same_names}
 use Rattle.am_exec.proofs.declarations.same_names.Given as goal
 

@@ -1,6 +1,6 @@
 use Rattle.std.proofs.Common.{◌≡◌, length}
 use Rattle.am_term.specs.NameLists.{is_among}
-use Rattle.am_diagram.specs.Canonical.{names_of}
+use Rattle.am_diagram.specs.Listed.{names_of}
 use Rattle.am_exec.proofs.lookups.is_listed.Given as goal
 
 -- what is left decides

@@ -1,5 +1,5 @@
 use Rattle.std.proofs.Common.{◌≡◌, take}
-use Rattle.am_diagram.specs.Canonical.{sorts_in}
+use Rattle.am_diagram.specs.Listed.{sorts_in}
 use Rattle.am_exec.proofs.running.input_sorts.Given as goal
 
 -- the sorts so far

@@ -1,5 +1,5 @@
 use Rattle.std.proofs.Common.{◌≡◌, length}
-use Rattle.am_diagram.specs.Canonical.{names_of}
+use Rattle.am_diagram.specs.Listed.{names_of}
 use Rattle.am_exec.specs.Terms.{terms_held}
 use Rattle.am_exec.proofs.Answering.{in_front}
 use Rattle.am_exec.proofs.running.outputs_held.Given as goal
