@@ -1,2 +1,3 @@
+mod LookSteps
 mod NameSteps
 mod ReadSteps

@@ -27,3 +27,6 @@ pub use diagram::Diagram;
 pub use draft::Draft;
 pub use fault::{DiagramFault, DiagramKind};
 pub use reading::read_diagram;
+
+#[cfg(test)]
+mod tests;
