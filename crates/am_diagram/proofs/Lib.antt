@@ -1,3 +1,4 @@
+mod LookSteps
 mod NameSteps
 mod ReadSteps
 pub mod DiagramWellFormed
