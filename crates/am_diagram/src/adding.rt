@@ -16,11 +16,7 @@ use std::alloc::Global;
 
 /// What there is after one more declaration.
 #[tactic(auto, unfolding(crate::specs::Drafts::with_decl))]
-pub fn with_decl(
-    tables: &Tables,
-    draft: Draft,
-    declaration: Declaration,
-) -> Result<Draft, NoMemory>
+pub fn with_decl(tables: &Tables, draft: Draft, declaration: Declaration) -> Result<Draft, NoMemory>
     ensures { IfOk result (λ next. next ≡ with_decl tables.now.theory.now draft declaration) }
 {
     let mut draft = draft;
@@ -72,11 +68,7 @@ pub fn diagram_of(alloc: Global, tables: &Tables, draft: Draft) -> Result<Diagra
     })
 }
 
-fn given_meanings(
-    alloc: Global,
-    tables: &Tables,
-    draft: &Draft,
-) -> Result<Items<Literal>, NoMemory>
+fn given_meanings(alloc: Global, tables: &Tables, draft: &Draft) -> Result<Items<Literal>, NoMemory>
     ensures { IfOk result (λ ls. ls ≡ map (literal_meaning (given_scope tables.now.theory.now draft.now)) draft.now.givens) }
 {
     let bound = given_bound(alloc, draft)?;

@@ -41,7 +41,10 @@ fn with_inputs(
     let mut number = 0u32;
     let mut rest = inputs;
     while let [(name, sort), behind @ ..] = rest {
-        let standing = Standing::Input { k: number, sort: *sort };
+        let standing = Standing::Input {
+            k: number,
+            sort: *sort,
+        };
         bound.push(named(alloc, name, standing)?)?;
         number = number.checked_add(1).ok_or(NoMemory)?;
         rest = behind;
@@ -61,7 +64,10 @@ fn with_variables(
     let mut number = first;
     let mut rest = variables;
     while let [(name, sort), behind @ ..] = rest {
-        let standing = Standing::Variable { n: number, sort: *sort };
+        let standing = Standing::Variable {
+            n: number,
+            sort: *sort,
+        };
         bound.push(named(alloc, name, standing)?)?;
         number = number.checked_add(1).ok_or(NoMemory)?;
         rest = behind;
