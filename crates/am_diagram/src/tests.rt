@@ -31,10 +31,7 @@ const SIZES: &[u8] = b"(theory 1)
 
 /// Files over `TIMES` whose first fault is at the mark `!`, which is no part of the file.
 const FAULTS: [(&[u8], DiagramKind); 56] = [
-    (
-        b"(diagram D1)\n!)",
-        DiagramKind::Text(TextKind::Unopened),
-    ),
+    (b"(diagram D1)\n!)", DiagramKind::Text(TextKind::Unopened)),
     (
         b"(diagram d1)\n(input U!",
         DiagramKind::Text(TextKind::Unclosed),
@@ -151,10 +148,7 @@ const FAULTS: [(&[u8], DiagramKind); 56] = [
         b"(diagram D1)\n(output E et)\n!(require (= E D1))\n",
         DiagramKind::Unbound,
     ),
-    (
-        b"(diagram D1)\n(input U utc)\n!",
-        DiagramKind::NoOutput,
-    ),
+    (b"(diagram D1)\n(input U utc)\n!", DiagramKind::NoOutput),
     (
         b"(diagram D1)\n(given ready)\n(require ready)!",
         DiagramKind::NoOutput,
@@ -164,10 +158,7 @@ const FAULTS: [(&[u8], DiagramKind); 56] = [
         b"(diagram D1)\n(output E et)\n(given ready)\n; end\n!",
         DiagramKind::NoRequire,
     ),
-    (
-        b"(diagram D1)\n(output E et)!",
-        DiagramKind::NoRequire,
-    ),
+    (b"(diagram D1)\n(output E et)!", DiagramKind::NoRequire),
     (b"(diagram D1)\n!(input D1 tdb)\n", DiagramKind::UnknownName),
     (b"(diagram D1)\n!(input D1 time)\n", DiagramKind::Twice),
     (b"(diagram D1)\n!(input u time)\n", DiagramKind::NotConcrete),
@@ -175,10 +166,7 @@ const FAULTS: [(&[u8], DiagramKind); 56] = [
         b"(diagram D1)\n(input U utc)\n!(given (later U))\n",
         DiagramKind::BadSort,
     ),
-    (
-        b"(diagram D1)\n!(given (later x))\n",
-        DiagramKind::BadArity,
-    ),
+    (b"(diagram D1)\n!(given (later x))\n", DiagramKind::BadArity),
     (
         b"(diagram D1)\n!(input SCALE time)\n(output D1 tdb)\n",
         DiagramKind::NotConcrete,
