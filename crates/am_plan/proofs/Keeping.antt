@@ -39,7 +39,7 @@ use Rattle.am_plan.specs.Answers.{sorts_of, AllServe, IsAnswerFor}
 use Rattle.am_plan.specs.Calls.{completed, listed, calls, outputs_at, value_at, made_at, made_by, made}
 use Rattle.am_plan.specs.Names.{Named, named, locals, name_of}
 use Rattle.am_plan.specs.Plan.{names_of, literal_or, literal_of, operand_for, routine_call, first_name, function_call, statement_at, statement_of, is_array_rep, copy_name, copy_to, is_set, copies, rep_or_double, dummy_decl, head_of, rep_of_sort, rep_of_head, local_decl, function_at, same_function, functions_used, function_decl, arguments}
-use Rattle.am_plan.proofs.Belonging.{Among, among-flat, all-among}
+use Rattle.am_plan.proofs.Membership.{Among, among-flat, all-among}
 use Rattle.am_plan.proofs.Operands.{operand-In, operand-App}
 use Rattle.am_plan.proofs.Reached.{Good, Applied, applied, fit-count, not-ready, all-good, args-among, self-among, IsCallOf, call-of, RoutineAt, FunctionAt, callee-at, made-there}
 use Rattle.am_plan.proofs.Kept.{all-map, all-flat-map, all-append, all-member, all-distinct, all-at, find-among, free-fortran, free-all, named-all, name-fortran, locals-all, input-fortran, value-well, dummy-typed, local-typed, array-not-scalar}

@@ -22,7 +22,7 @@ use Rattle.am_fortran.specs.Well.{is_between, is_type, is_text_byte, is_operand}
 use Rattle.am_exec.specs.Types.{dummy_type, local_type, is_scalar}
 use Rattle.am_plan.specs.Names.{digit, local_name, output_for, Named, named_by, next_local, named_from, local_by, locals, name_of}
 use Rattle.am_plan.specs.Plan.{names_of, written_value}
-use Rattle.am_plan.proofs.Belonging.{Among}
+use Rattle.am_plan.proofs.Membership.{Among}
 
 -- ---- all of a list
 pub all-each : {A : Type 0} (p : A → Bool) (xs : List A) → ((x : A) → Among x xs → p x ≡ true) → list_all p xs ≡ true

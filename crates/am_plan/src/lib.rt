@@ -23,3 +23,6 @@ pub use laws::{law_of_answer, law_of_calls, law_of_need};
 pub use named_terms::{NamedTerms, name_of, sized};
 pub use naming::{local_name, made, made_by, named, output_for};
 pub use planning::plan;
+
+#[cfg(test)]
+mod tests;
