@@ -1,10 +1,9 @@
 pub mod Answers
 pub mod Codes
-pub mod DiagramDraft
-pub mod DiagramLines
-pub mod FirstUnit
-pub mod TheoryDraft
-pub mod TheoryLines
-pub mod ThinDiagram
-pub mod ThinTheory
+pub mod Commands
+pub mod Direct
+pub mod DirectTests
+pub mod Messages
+pub mod Requests
+pub mod Steps
 pub mod Words

@@ -8,10 +8,12 @@ pub enum File {
 /// What words and files come to, before anything is written: the text to print, or why there is none.
 #[derive(Debug, Drop)]
 pub enum Answer {
-    /// The subroutine's text.
+    /// The text to print.
     Text(Vec<u8>),
     /// The words have no reading.
     Usage,
+    /// The file has a fault, and this is the message that says which.
+    Fault(File, Vec<u8>),
     /// The file is of a kind that isn't built yet.
     NotBuilt(File),
     /// The library had a fault at the file.

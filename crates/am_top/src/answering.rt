@@ -1,16 +1,35 @@
-ghost use Rattle.std.specs.Prelude.{◌≡◌, ◌≢◌, ◌≤◌, ℕ, List, map, true, string_bytes, option_map, MatchResult};
+ghost use Rattle.std.specs.Prelude.{◌≡◌, ◌≢◌, ◌≤◌, ℕ, List, map, string_bytes, MatchResult};
 ghost use Rattle.am_outside.specs.Causes.{Rose};
-ghost use Rattle.am_outside.specs.Growth.{WhereTold};
-ghost use Rattle.am_top.specs.ThinTheory.{is_thin_theory, IsTheoryText};
-ghost use Rattle.am_top.specs.ThinDiagram.{is_thin_diagram, IsDiagramText};
-ghost use Rattle.am_top.specs.Answers.{reading, IsLoaded, TheoryRefused, DiagramRefused, HasAnswer, WordsAnswer, IsUnread, AllSure, IsTheoryFound, IsDiagramFound, IsUnitText};
+ghost use Rattle.am_theory.specs.Facts.{WellFormed as WellFormedTheory};
+ghost use Rattle.am_diagram.specs.Facts.{WellFormed};
+ghost use Rattle.am_top.specs.Commands.{reading, AllSure};
+ghost use Rattle.am_top.specs.Answers.{IsLoaded, MakeAnswer, ShowAnswer, WordsAnswer, IsUnread};
+ghost use Rattle.am_top.specs.Steps.{IsTheoryFound, IsDiagramFound, IsUnitText, TheoryRefused, DiagramRefused, TellsTheoryFault, TellsDiagramFault};
 
 use crate::answer::{Answer, File};
+use crate::direct::direct_answer;
 use crate::loaded::Loaded;
-use crate::thin::{ThinDiagram, ThinTheory, first_unit, read_thin_diagram, read_thin_theory};
+use crate::messages::{diagram_message, theory_message};
+use crate::requests::{Request, read_words};
+use am_diagram::{Diagram, DiagramFault, DiagramKind, read_diagram};
 use am_fortran::write_unit;
 use am_outside::{Fetched, Library};
+use am_plan::plan;
+use am_text::TextKind;
+use am_theory::{Theory, TheoryFault, TheoryKind, read_theory, write_theory};
 use std::alloc::Global;
+
+// The fault of a theory file that has more bytes than a file may have.
+const LONG_THEORY: TheoryFault = TheoryFault {
+    place: 1_048_576,
+    kind: TheoryKind::Text(TextKind::TooLong),
+};
+
+// The same of a diagram file.
+const LONG_DIAGRAM: DiagramFault = DiagramFault {
+    place: 1_048_576,
+    kind: DiagramKind::Text(TextKind::TooLong),
+};
 
 /// What words come to over the files that they name.
 #[tactic(auto, using(crate::proofs::FileAnswers::answer_laws))]
@@ -22,25 +41,16 @@ pub fn answer_words<L: Library>(alloc: Global, words: &[String], library: &mut L
     ensures sure { AllSure (reading (map string_bytes words.now)) (L.sure library.old) → IsUnread result → ⊥ }
 {
     match read_words(words) {
-        Some((theory, diagram)) => answer_files(alloc, library, theory, diagram),
+        Some(Request::Make { theory, diagram }) => answer_make(alloc, library, theory, diagram),
+        Some(Request::Theory { theory }) => answer_theory(alloc, library, theory),
         None => Answer::Usage,
     }
 }
 
-fn read_words(words: &[String]) -> Option<(&str, &str)>
-    ensures { option_map (λ r. (r.0.now, r.1.now)) result ≡ reading (map string_bytes words.now) }
-{
-    match words {
-        [command, theory, diagram] if command.as_str() == "make" => {
-            Some((theory.as_str(), diagram.as_str()))
-        }
-        _ => None,
-    }
-}
-
+// The subroutine of a theory and a diagram.
 #[tactic(auto, using(crate::proofs::FileAnswers::answer_laws))]
-fn answer_files<L: Library>(alloc: Global, library: &mut L, first: &str, second: &str) -> Answer
-    ensures answer { HasAnswer (L.told library.old first.now) (L.told library.old second.now) result }
+fn answer_make<L: Library>(alloc: Global, library: &mut L, first: &str, second: &str) -> Answer
+    ensures answer { MakeAnswer (L.told library.old first.now) (L.told library.old second.now) result }
     ensures unread { IsUnread result → Rose (L.faults library.old) (L.faults library.new) }
     ensures kept { (IsUnread result → ⊥) → L.faults library.new ≡ L.faults library.old }
     ensures later { L.faults library.old ≤ L.faults library.new }
@@ -50,6 +60,9 @@ fn answer_files<L: Library>(alloc: Global, library: &mut L, first: &str, second:
         Ok(theory) => theory,
         Err(answer) => return answer,
     };
+    if !theory.axioms.is_empty() {
+        return Answer::NotBuilt(File::Theory);
+    }
     let diagram = match find_diagram(alloc, library, &theory, second) {
         Ok(diagram) => diagram,
         Err(answer) => return answer,
@@ -57,8 +70,27 @@ fn answer_files<L: Library>(alloc: Global, library: &mut L, first: &str, second:
     answer_text(alloc, &theory, &diagram)
 }
 
+// The canonical text of a theory.
+#[tactic(auto, using(crate::proofs::FileAnswers::answer_laws))]
+fn answer_theory<L: Library>(alloc: Global, library: &mut L, name: &str) -> Answer
+    ensures answer { ShowAnswer (L.told library.old name.now) result }
+    ensures unread { IsUnread result → Rose (L.faults library.old) (L.faults library.new) }
+    ensures kept { (IsUnread result → ⊥) → L.faults library.new ≡ L.faults library.old }
+    ensures later { L.faults library.old ≤ L.faults library.new }
+    ensures sure { L.sure library.old name.now → IsUnread result → ⊥ }
+{
+    let theory = match find_theory(alloc, library, name) {
+        Ok(theory) => theory,
+        Err(answer) => return answer,
+    };
+    match write_theory(alloc, &theory) {
+        Ok(text) => Answer::Text(text),
+        Err(_) => Answer::NoMemory,
+    }
+}
+
 #[tactic(auto, using(crate::proofs::FileAnswers::theory_laws))]
-fn find_theory<L: Library>(alloc: Global, library: &mut L, name: &str) -> Result<ThinTheory, Answer>
+fn find_theory<L: Library>(alloc: Global, library: &mut L, name: &str) -> Result<Theory, Answer>
     ensures found { MatchResult result (IsTheoryFound (L.told library.old name.now)) (TheoryRefused (L.told library.old name.now)) }
     ensures unread { MatchResult result (λ _. L.faults library.new ≡ L.faults library.old) (λ answer. IsUnread answer → Rose (L.faults library.old) (L.faults library.new)) }
     ensures kept { MatchResult result (λ _. L.faults library.new ≡ L.faults library.old) (λ answer. (IsUnread answer → ⊥) → L.faults library.new ≡ L.faults library.old) }
@@ -68,12 +100,11 @@ fn find_theory<L: Library>(alloc: Global, library: &mut L, name: &str) -> Result
     ensures stay_sure { (n : List ℕ) → L.sure library.old n → L.sure library.new n }
 {
     match load(alloc, library, name) {
-        Loaded::Bytes(bytes) => match read_thin_theory(alloc, bytes.as_slice()) {
-            Ok(Some(theory)) => Ok(theory),
-            Ok(None) => Err(Answer::NotBuilt(File::Theory)),
-            Err(_) => Err(Answer::NoMemory),
+        Loaded::Bytes(bytes) => match read_theory(alloc, bytes.as_slice()) {
+            Ok(theory) => Ok(theory),
+            Err(fault) => Err(refuse_theory(alloc, &fault)),
         },
-        Loaded::TooLong => Err(Answer::NotBuilt(File::Theory)),
+        Loaded::TooLong => Err(refuse_theory(alloc, &LONG_THEORY)),
         Loaded::Unread => Err(Answer::Unread(File::Theory)),
         Loaded::NoMemory => Err(Answer::NoMemory),
     }
@@ -83,10 +114,10 @@ fn find_theory<L: Library>(alloc: Global, library: &mut L, name: &str) -> Result
 fn find_diagram<L: Library>(
     alloc: Global,
     library: &mut L,
-    theory: &ThinTheory,
+    theory: &Theory,
     name: &str,
-) -> Result<ThinDiagram, Answer>
-    requires { is_thin_theory theory.now ≡ true }
+) -> Result<Diagram, Answer>
+    requires { WellFormedTheory theory.now }
     ensures found { MatchResult result (IsDiagramFound theory.now (L.told library.old name.now)) (DiagramRefused theory.now (L.told library.old name.now)) }
     ensures unread { MatchResult result (λ _. L.faults library.new ≡ L.faults library.old) (λ answer. IsUnread answer → Rose (L.faults library.old) (L.faults library.new)) }
     ensures kept { MatchResult result (λ _. L.faults library.new ≡ L.faults library.old) (λ answer. (IsUnread answer → ⊥) → L.faults library.new ≡ L.faults library.old) }
@@ -94,24 +125,55 @@ fn find_diagram<L: Library>(
     ensures sure { L.sure library.old name.now → MatchResult result (λ _. Unit {0}) (λ answer. IsUnread answer → ⊥) }
 {
     match load(alloc, library, name) {
-        Loaded::Bytes(bytes) => match read_thin_diagram(alloc, theory, bytes.as_slice()) {
-            Ok(Some(diagram)) => Ok(diagram),
-            Ok(None) => Err(Answer::NotBuilt(File::Diagram)),
-            Err(_) => Err(Answer::NoMemory),
+        Loaded::Bytes(bytes) => match read_diagram(alloc, theory, bytes.as_slice()) {
+            Ok(diagram) => Ok(diagram),
+            Err(fault) => Err(refuse_diagram(alloc, &fault)),
         },
-        Loaded::TooLong => Err(Answer::NotBuilt(File::Diagram)),
+        Loaded::TooLong => Err(refuse_diagram(alloc, &LONG_DIAGRAM)),
         Loaded::Unread => Err(Answer::Unread(File::Diagram)),
         Loaded::NoMemory => Err(Answer::NoMemory),
     }
 }
 
+// The answer to a fault of a theory file.
+fn refuse_theory(alloc: Global, fault: &TheoryFault) -> Answer
+    ensures { TellsTheoryFault fault.now result }
+{
+    if matches!(fault.kind, TheoryKind::NoMemory) {
+        return Answer::NoMemory;
+    }
+    match theory_message(alloc, fault) {
+        Ok(message) => Answer::Fault(File::Theory, message),
+        Err(_) => Answer::NoMemory,
+    }
+}
+
+// The answer to a fault of a diagram file.
+fn refuse_diagram(alloc: Global, fault: &DiagramFault) -> Answer
+    ensures { TellsDiagramFault fault.now result }
+{
+    if matches!(fault.kind, DiagramKind::NoMemory) {
+        return Answer::NoMemory;
+    }
+    match diagram_message(alloc, fault) {
+        Ok(message) => Answer::Fault(File::Diagram, message),
+        Err(_) => Answer::NoMemory,
+    }
+}
+
 #[tactic(auto, using(crate::proofs::FileAnswers::text_laws))]
-fn answer_text(alloc: Global, theory: &ThinTheory, diagram: &ThinDiagram) -> Answer
-    requires theory { is_thin_theory theory.now ≡ true }
-    requires diagram { is_thin_diagram theory.now diagram.now ≡ true }
+fn answer_text(alloc: Global, theory: &Theory, diagram: &Diagram) -> Answer
+    requires theory { WellFormedTheory theory.now }
+    requires diagram { WellFormed theory.now diagram.now }
     ensures { IsUnitText theory.now diagram.now result }
 {
-    let Ok(unit) = first_unit(alloc, theory, diagram) else {
+    let Ok(found) = direct_answer(alloc, theory, diagram) else {
+        return Answer::NoMemory;
+    };
+    let Some(answer) = found else {
+        return Answer::NotBuilt(File::Diagram);
+    };
+    let Ok(unit) = plan(alloc, theory, diagram, answer.as_slice()) else {
         return Answer::NoMemory;
     };
     match write_unit(alloc, &unit) {

@@ -1,16 +1,19 @@
-ghost use Rattle.std.specs.Prelude.{◌≡◌, ◌≢◌, ◌⊎◌, None, Some, map, string_bytes};
+ghost use Rattle.std.specs.Prelude.{◌≡◌, ◌≢◌, ◌⊎◌, ℕ, None, Ok, List, map, string_bytes};
+ghost use Rattle.am_term.specs.declared.term.Term.{Term};
 ghost use Rattle.am_outside.specs.Causes.{Rose};
 ghost use Rattle.am_outside.specs.Growth.{Grows, GrowsByPart};
 ghost use Rattle.am_world.specs.Interpretation.{IsWorld};
+ghost use Rattle.am_theory.specs.declared.theory.Theory.{Theory};
+ghost use Rattle.am_theory.specs.Contents.{Contents};
+ghost use Rattle.am_theory.specs.CanonicalText.{canon};
+ghost use Rattle.am_theory.specs.Reading.{theory as theory_of};
+ghost use Rattle.am_diagram.specs.declared.diagram.Diagram.{Diagram};
 ghost use Rattle.am_exec.specs.Right.{Right};
 ghost use Rattle.am_fortran.specs.Text.{unit_text};
 ghost use Rattle.am_fortran.specs.declared.unit.Unit.{Unit as Subroutine};
 ghost use Rattle.am_top.specs.declared.answer.Answer.{Answer};
-ghost use Rattle.am_top.specs.declared.thin.model.ThinTheory.{ThinTheory};
-ghost use Rattle.am_top.specs.declared.thin.model.ThinDiagram.{ThinDiagram};
-ghost use Rattle.am_top.specs.ThinTheory.{theory_of, HasNoTheory};
-ghost use Rattle.am_top.specs.ThinDiagram.{diagram_of};
-ghost use Rattle.am_top.specs.Answers.{reading, WhereRead, AllSure, WordsAnswer, IsMade, MakesText, HasNoMake, text_of, message_of, message_at_fault, status_of};
+ghost use Rattle.am_top.specs.Commands.{reading, AllSure};
+ghost use Rattle.am_top.specs.Answers.{WhereMade, WhereShown, WordsAnswer, IsMade, IsTheoryFault, IsDiagramFault, HasAxiom, IsNotDirect, text_of, message_of, message_at_fault, status_of};
 
 use crate::answering::answer_words;
 use crate::printing::print;
@@ -20,9 +23,8 @@ use am_world::World;
 use std::alloc::Global;
 
 /// Carries out the command that the words are: `make THEORY DIAGRAM` prints the subroutine that solves
-/// the diagram over the theory on `out`. Messages go to `err`. The answer is the exit status. `world` is
-/// any interpretation: it is in the contract alone.
-#[tactic(auto, using(crate::proofs::Commands::command_laws))]
+/// the diagram over the theory on `out`, `theory THEORY` the theory's canonical text. Messages go to
+/// `err`. The answer is the exit status. `world` is any interpretation: it is in the contract alone.
 pub fn run<L: Library, O: Sink, E: Sink, W: World>(
     alloc: Global,
     words: &[String],
@@ -31,12 +33,15 @@ pub fn run<L: Library, O: Sink, E: Sink, W: World>(
     err: &mut E,
     world: &W,
 ) -> Status
-    // What was printed is the text of the unit of the two files.
-    ensures printed { result ≡ Status.Ok → WhereRead (reading (map string_bytes words.now)) (L.told library.old) (λ a b.
-        (t : ThinTheory) × (d : ThinDiagram) × (u : Subroutine) × IsMade a b t d u × Grows (O.held out.old) (O.held out.new) (unit_text u)) }
+    // What `make` printed is the text of the unit that the terms of the diagram ask for.
+    ensures printed { result ≡ Status.Ok → WhereMade (reading (map string_bytes words.now)) (L.told library.old) (λ a b.
+        (t : Theory) × (d : Diagram) × (answer : List Term) × (u : Subroutine) × IsMade a b t d answer u × Grows (O.held out.old) (O.held out.new) (unit_text u)) }
     // It is right for the diagram, in every interpretation of the theory's signature.
-    ensures right { result ≡ Status.Ok → WhereRead (reading (map string_bytes words.now)) (L.told library.old) (λ a b.
-        (t : ThinTheory) (d : ThinDiagram) (u : Subroutine) → IsMade a b t d u → IsWorld (theory_of t).sig (W.meaning world.now) → Right (W.meaning world.now) (theory_of t) (diagram_of d) u) }
+    ensures right { result ≡ Status.Ok → WhereMade (reading (map string_bytes words.now)) (L.told library.old) (λ a b.
+        (t : Theory) (d : Diagram) (answer : List Term) (u : Subroutine) → IsMade a b t d answer u → IsWorld t.sig (W.meaning world.now) → Right (W.meaning world.now) t d u) }
+    // What `theory` printed is the canonical text of the theory that the file is.
+    ensures shown { result ≡ Status.Ok → WhereShown (reading (map string_bytes words.now)) (L.told library.old) (λ a.
+        (c : Contents) × (theory_of a ≡ Ok c) × Grows (O.held out.old) (O.held out.new) (canon c)) }
     // Status, text and message are those of the one answer that the words and the files have.
     ensures answered { result ≢ Status.Write → (answer : Answer) × WordsAnswer (reading (map string_bytes words.now)) (L.told library.old) answer
         × (result ≡ status_of answer) × Grows (O.held out.old) (O.held out.new) (text_of answer) × Grows (E.held err.old) (E.held err.new) (message_of answer) }
@@ -44,7 +49,15 @@ pub fn run<L: Library, O: Sink, E: Sink, W: World>(
         × GrowsByPart (O.held out.old) (O.held out.new) (text_of answer) × GrowsByPart (E.held err.old) (E.held err.new) (message_at_fault answer) }
     ensures usage { result ≡ Status.Usage → reading (map string_bytes words.now) ≡ None }
     ensures no_reading { reading (map string_bytes words.now) ≡ None → (result ≡ Status.Usage) ⊎ (result ≡ Status.Write) }
-    ensures not_built { result ≡ Status.NotBuilt → WhereRead (reading (map string_bytes words.now)) (L.told library.old) (λ a b. HasNoTheory a ⊎ HasNoMake a b) }
+    // A file of `make` has a fault, of which the message tells.
+    ensures file_of_make { result ≡ Status.File → WhereMade (reading (map string_bytes words.now)) (L.told library.old) (λ a b.
+        (message : List ℕ) × (IsTheoryFault a message ⊎ IsDiagramFault a b message) × Grows (E.held err.old) (E.held err.new) message) }
+    // So has the file of `theory`.
+    ensures file_of_theory { result ≡ Status.File → WhereShown (reading (map string_bytes words.now)) (L.told library.old) (λ a.
+        (message : List ℕ) × IsTheoryFault a message × Grows (E.held err.old) (E.held err.new) message) }
+    // The theory has an axiom, or the diagram isn't direct; only `make` is refused so.
+    ensures not_built { result ≡ Status.NotBuilt → WhereMade (reading (map string_bytes words.now)) (L.told library.old) (λ a b. HasAxiom a ⊎ IsNotDirect a b) }
+    ensures built { result ≡ Status.NotBuilt → WhereShown (reading (map string_bytes words.now)) (L.told library.old) (λ a. ⊥) }
     ensures read { result ≡ Status.Read → Rose (L.faults library.old) (L.faults library.new) }
     ensures not_read { result ≢ Status.Read → result ≢ Status.Write → L.faults library.new ≡ L.faults library.old }
     ensures sure { AllSure (reading (map string_bytes words.now)) (L.sure library.old) → result ≢ Status.Read }
@@ -52,11 +65,14 @@ pub fn run<L: Library, O: Sink, E: Sink, W: World>(
     ensures not_write { result ≢ Status.Write → (O.faults out.new ≡ O.faults out.old) × (E.faults err.new ≡ E.faults err.old) }
     ensures nothing { result ≢ Status.Ok → result ≢ Status.Write → O.held out.new ≡ O.held out.old }
     // Without a cause nothing is refused.
-    ensures complete { WhereRead (reading (map string_bytes words.now)) (L.told library.old) (λ a b. (t : ThinTheory) (d : ThinDiagram) (u : Subroutine) → IsMade a b t d u
+    ensures complete { WhereMade (reading (map string_bytes words.now)) (L.told library.old) (λ a b. (t : Theory) (d : Diagram) (answer : List Term) (u : Subroutine) → IsMade a b t d answer u
         → (Rose (L.faults library.old) (L.faults library.new) → ⊥) → (Rose (O.faults out.old) (O.faults out.new) → ⊥) → (Rose (E.faults err.old) (E.faults err.new) → ⊥)
         → (result ≡ Status.Ok) ⊎ (result ≡ Status.NoMemory)) }
-    // No other status comes from this command.
-    ensures only { (result ≡ Status.Ok) ⊎ (result ≡ Status.Usage) ⊎ (result ≡ Status.NotBuilt) ⊎ (result ≡ Status.Read) ⊎ (result ≡ Status.Write) ⊎ (result ≡ Status.NoMemory) }
+    ensures complete_theory { WhereShown (reading (map string_bytes words.now)) (L.told library.old) (λ a. (c : Contents) → theory_of a ≡ Ok c
+        → (Rose (L.faults library.old) (L.faults library.new) → ⊥) → (Rose (O.faults out.old) (O.faults out.new) → ⊥) → (Rose (E.faults err.old) (E.faults err.new) → ⊥)
+        → (result ≡ Status.Ok) ⊎ (result ≡ Status.NoMemory)) }
+    // No other status comes from these commands.
+    ensures only { (result ≡ Status.Ok) ⊎ (result ≡ Status.Usage) ⊎ (result ≡ Status.File) ⊎ (result ≡ Status.NotBuilt) ⊎ (result ≡ Status.Read) ⊎ (result ≡ Status.Write) ⊎ (result ≡ Status.NoMemory) }
 {
     let answer = answer_words(alloc, words, library);
     print(out, err, &answer)

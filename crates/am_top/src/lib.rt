@@ -1,23 +1,22 @@
-//! The one call that the program makes: words and files in, a FORTRAN subroutine out.
+//! The one call that the program makes: words and files in, a text out.
 //!
-//! `specs/Answers.antt` says which answer words and files have, `ThinTheory` and `ThinDiagram` which
-//! files are read so far, `FirstUnit` which subroutine is printed for them. The crate rests on all the
-//! others.
+//! `specs/Commands.antt` says which command words are, `Answers` which answer words and files have,
+//! `Messages` what is said of a file that has a fault, `Direct` which diagrams are solved so far. The
+//! crate rests on all the others.
 #![tactic(auto)]
 
 mod answer;
 mod answering;
 mod command;
-mod laws;
+mod direct;
 mod loaded;
+mod messages;
 mod printing;
+mod requests;
 mod status;
 #[cfg(test)]
 mod tests;
-mod thin;
 
 pub use answer::{Answer, File};
 pub use command::run;
-pub use laws::law_of_texts;
 pub use status::Status;
-pub use thin::{ThinDiagram, ThinRoutine, ThinSort, ThinTheory};

@@ -23,7 +23,12 @@ pub fn print<O: Sink, E: Sink>(out: &mut O, err: &mut E, answer: &Answer) -> Sta
 {
     match answer {
         Answer::Text(text) => print_text(out, err, text.as_slice()),
-        Answer::Usage => refuse(err, b"usage: amphion make THEORY DIAGRAM\n", Status::Usage),
+        Answer::Usage => refuse(
+            err,
+            b"usage: amphion make THEORY DIAGRAM\n       amphion theory THEORY\n",
+            Status::Usage,
+        ),
+        Answer::Fault(_, message) => refuse(err, message.as_slice(), Status::File),
         Answer::NotBuilt(file) => refuse(err, not_built(*file), Status::NotBuilt),
         Answer::Unread(file) => refuse(err, not_read(*file), Status::Read),
         Answer::NoMemory => refuse(err, b"amphion: no memory\n", Status::NoMemory),

@@ -1,4 +1,4 @@
-//! The rows of the first path: what is printed and said for files in memory.
+//! What is printed and said for files in memory.
 
 use crate::{Status, run};
 use am_outside::{Page, Shelf};
@@ -14,13 +14,31 @@ const TWO_ROUTINES: &str =
 const CLOCK: &str =
     "(theory 1)\n(sort time)\n(sort utc (char 32))\n(sort et double)\n(function time-of (et) time)\n(function utc-time (utc) time)\n(routine UTC2ET (utc) (utc2et et))\n(axiom (all ((x utc)) (= (utc-time x) (time-of (utc2et x)))))\n";
 
+const SUMS: &str =
+    "(theory 1)\n(sort utc (char 32))\n(sort et double)\n(routine UTC2ET (utc) (utc2et et))\n(routine ADD (et et) (add et))\n";
+
 const CONV: &str = "(diagram CONV)\n(input U utc)\n(output E et)\n(require (= E (utc2et U)))\n";
 
 const NEST: &str =
     "(diagram NEST)\n(input U utc)\n(output E et)\n(require (= E (scale (utc2et U))))\n";
 
+const SUM: &str =
+    "(diagram SUM)\n(input U utc)\n(output E et)\n(require (= E (add (utc2et U) (utc2et U))))\n";
+
 const CONV_UNIT: &str =
     "      SUBROUTINE CONV(U, E)\n      CHARACTER*(*) U\n      DOUBLE PRECISION E\n      CALL UTC2ET(U, E)\n      END\n";
+
+const NEST_UNIT: &str =
+    "      SUBROUTINE NEST(U, E)\n      CHARACTER*(*) U\n      DOUBLE PRECISION E\n      DOUBLE PRECISION T00001\n      CALL UTC2ET(U, T00001)\n      CALL SCALE(T00001, E)\n      END\n";
+
+const SUM_UNIT: &str =
+    "      SUBROUTINE SUM(U, E)\n      CHARACTER*(*) U\n      DOUBLE PRECISION E\n      DOUBLE PRECISION T00001\n      CALL UTC2ET(U, T00001)\n      CALL ADD(T00001, T00001, E)\n      END\n";
+
+const TWICE: &str =
+    "(diagram TWICE)\n(input U utc)\n(output E et)\n(output F et)\n(require (= E (utc2et U)))\n(require (= F (utc2et U)))\n";
+
+const TWICE_UNIT: &str =
+    "      SUBROUTINE TWICE(U, E, F)\n      CHARACTER*(*) U\n      DOUBLE PRECISION E\n      DOUBLE PRECISION F\n      CALL UTC2ET(U, E)\n      F = E\n      END\n";
 
 /// What a run left: the status and what the two pages hold.
 #[derive(Drop)]
@@ -87,7 +105,7 @@ fn expect(rt: &impl Abort, outcome: Outcome, status: Status, out: &str, err: &st
     assert!(rt; outcome.err.as_slice() == err.as_bytes());
 }
 
-/// That a run over two files left this status, text and message.
+/// That `make` over two files left this status, text and message.
 fn expect_made(
     rt: &(impl Abort + AllocGlobal),
     theory: &str,
@@ -101,204 +119,241 @@ fn expect_made(
     Ok(())
 }
 
+/// That `theory` over a file left this status, text and message.
+fn expect_shown(
+    rt: &(impl Abort + AllocGlobal),
+    theory: &str,
+    status: Status,
+    out: &str,
+    err: &str,
+) -> Result<(), Fail> {
+    let outcome = made(rt.alloc(), &["theory", "t"], theory, CONV, None)?;
+    expect(rt, outcome, status, out, err);
+    Ok(())
+}
+
+#[test]
+fn makes_units(rt: HostRuntime) -> Result<(), Fail> {
+    expect_made(&rt, TWO_ROUTINES, CONV, Status::Ok, CONV_UNIT, "")?;
+    expect_made(&rt, TWO_ROUTINES, NEST, Status::Ok, NEST_UNIT, "")?;
+    expect_made(&rt, SUMS, SUM, Status::Ok, SUM_UNIT, "")?;
+    expect_made(&rt, TWO_ROUTINES, TWICE, Status::Ok, TWICE_UNIT, "")?;
+    Ok(())
+}
+
 const NO_DIAGRAM: &str = "amphion: diagram: not built yet\n";
 
 const NO_THEORY: &str = "amphion: theory: not built yet\n";
 
+const WITH_OBJECT: &str =
+    "(diagram CONV)\n(input U utc)\n(object x et)\n(output E et)\n(require (= E (utc2et U)))\n";
+
+const WITH_GIVEN: &str =
+    "(diagram CONV)\n(input U utc)\n(output E et)\n(given (= (utc2et U) (utc2et U)))\n(require (= E (utc2et U)))\n";
+
+const TURNED: &str = "(diagram CONV)\n(input U utc)\n(output E et)\n(require (= (utc2et U) E))\n";
+
+const TWICE_REQUIRED: &str =
+    "(diagram CONV)\n(input U utc)\n(output E et)\n(require (= E (utc2et U)))\n(require (= E (utc2et U)))\n";
+
+const OF_ITSELF: &str = "(diagram LOOP)\n(output E et)\n(require (= E (scale E)))\n";
+
 #[test]
-fn makes_or_refuses_files(rt: HostRuntime) -> Result<(), Fail> {
-    expect_made(&rt, TWO_ROUTINES, CONV, Status::Ok, CONV_UNIT, "")?;
-    expect_made(&rt, TWO_ROUTINES, NEST, Status::NotBuilt, "", NO_DIAGRAM)?;
+fn refuses_what_is_not_built(rt: HostRuntime) -> Result<(), Fail> {
     expect_made(&rt, CLOCK, CONV, Status::NotBuilt, "", NO_THEORY)?;
-    expect_made(&rt, "", CONV, Status::NotBuilt, "", NO_THEORY)?;
-    expect_made(&rt, TWO_ROUTINES, "", Status::NotBuilt, "", NO_DIAGRAM)?;
-    Ok(())
-}
-
-/// That a theory of one sort and one routine is thin, or isn't, with these spellings.
-fn expect_thin(
-    rt: &(impl Abort + AllocGlobal),
-    sort: &str,
-    name: &str,
-    inputs: &str,
-    status: Status,
-) -> Result<(), Fail> {
-    let theory = format!(in rt.alloc();
-        "(theory 1)\n(sort utc (char 32))\n(sort et double)\n{sort}\n(routine UTC2ET (utc) (utc2et et))\n(routine {name} ({inputs}) (o et))\n"
-    )?;
-    let outcome = made(rt.alloc(), &["make", "t", "d"], theory.as_str(), CONV, None)?;
-    assert!(rt; outcome.status == status);
+    expect_shown(&rt, CLOCK, Status::Ok, CLOCK, "")?;
+    for diagram in [WITH_OBJECT, WITH_GIVEN, TURNED, TWICE_REQUIRED, OF_ITSELF] {
+        expect_made(&rt, TWO_ROUTINES, diagram, Status::NotBuilt, "", NO_DIAGRAM)?;
+    }
     Ok(())
 }
 
 #[test]
-fn knows_the_limits_of_theories(rt: HostRuntime) -> Result<(), Fail> {
-    expect_thin(&rt, "(sort a (char 1))", "F", "et", Status::Ok)?;
-    expect_thin(&rt, "(sort a (char 0))", "F", "et", Status::NotBuilt)?;
-    expect_thin(
-        &rt,
-        "(sort a (char 1024))",
-        "ABCDE6",
-        "et et et et et",
-        Status::Ok,
-    )?;
-    expect_thin(&rt, "(sort a (char 1025))", "F", "et", Status::NotBuilt)?;
-    expect_thin(&rt, "(sort a (char 01))", "F", "et", Status::NotBuilt)?;
-    expect_thin(&rt, "(sort et double)", "F", "et", Status::NotBuilt)?;
-    expect_thin(&rt, "(sort a  double)", "F", "et", Status::NotBuilt)?;
-    expect_thin(
-        &rt,
-        "(sort a double)",
-        "F",
-        "et et et et et et",
-        Status::NotBuilt,
-    )?;
-    expect_thin(&rt, "(sort a double)", "F", "", Status::NotBuilt)?;
-    expect_thin(&rt, "(sort a double)", "ABCDEF7", "et", Status::NotBuilt)?;
-    expect_thin(&rt, "(sort a double)", "T00001", "et", Status::NotBuilt)?;
-    expect_thin(&rt, "(sort a double)", "UTC2ET", "et", Status::NotBuilt)?;
-    expect_thin(&rt, "(sort a double)", "F", "b", Status::NotBuilt)?;
-    expect_thin(
-        &rt,
-        "(sort abcdefghijklmnopqrstuvwxyz01234 double)",
-        "F",
-        "et",
-        Status::Ok,
-    )?;
-    expect_thin(
-        &rt,
-        "(sort abcdefghijklmnopqrstuvwxyz012345 double)",
-        "F",
-        "et",
-        Status::NotBuilt,
-    )?;
+fn tells_a_fault_of_the_theory(rt: HostRuntime) -> Result<(), Fail> {
+    for (theory, message) in [
+        ("", "amphion: theory: byte 0: bad form\n"),
+        ("(theory 2)\n", "amphion: theory: byte 0: unknown version\n"),
+        (
+            "(theory 1)\n(function f (a) b)\n(sort b (double 3))\n",
+            "amphion: theory: byte 11: unknown name\n",
+        ),
+        (
+            "(theory 1)\n(sort v (double 3))\n",
+            "amphion: theory: byte 11: no copy routine\n",
+        ),
+        (
+            "(theory 1)\n(sort et double)\n(relation ok (et))\n(axiom (all ((x zz)) (ok x x)))\n",
+            "amphion: theory: byte 47: unknown name\n",
+        ),
+        (
+            "(theory 1)\n(sort",
+            "amphion: theory: byte 16: unclosed form\n",
+        ),
+    ] {
+        expect_made(&rt, theory, CONV, Status::File, "", message)?;
+        expect_shown(&rt, theory, Status::File, "", message)?;
+    }
     Ok(())
 }
-
-/// That a diagram with these inputs and this call is thin over the two routines, or isn't.
-fn expect_diagram(
-    rt: &(impl Abort + AllocGlobal),
-    inputs: &str,
-    output: &str,
-    call: &str,
-    status: Status,
-) -> Result<(), Fail> {
-    let diagram = format!(in rt.alloc();
-        "(diagram D)\n{inputs}(output {output})\n(require (= {call}))\n"
-    )?;
-    let outcome = made(
-        rt.alloc(),
-        &["make", "t", "d"],
-        TWO_ROUTINES,
-        diagram.as_str(),
-        None,
-    )?;
-    assert!(rt; outcome.status == status);
-    Ok(())
-}
-
-const FIVE: &str = "(input A utc)\n(input B et)\n(input C et)\n(input G et)\n(input H utc)\n";
-
-const SIX: &str =
-    "(input A utc)\n(input B et)\n(input C et)\n(input G et)\n(input H utc)\n(input I utc)\n";
 
 #[test]
-fn knows_the_limits_of_diagrams(rt: HostRuntime) -> Result<(), Fail> {
-    expect_diagram(&rt, FIVE, "E et", "E (utc2et H)", Status::Ok)?;
-    expect_diagram(&rt, FIVE, "E et", "E (scale C)", Status::Ok)?;
-    expect_diagram(&rt, SIX, "E et", "E (utc2et H)", Status::NotBuilt)?;
-    expect_diagram(&rt, FIVE, "E utc", "E (utc2et H)", Status::NotBuilt)?;
-    expect_diagram(&rt, FIVE, "E et", "E (utc2et B)", Status::NotBuilt)?;
-    expect_diagram(&rt, FIVE, "E et", "E (utc2et H H)", Status::NotBuilt)?;
-    expect_diagram(&rt, FIVE, "E et", "A (utc2et H)", Status::NotBuilt)?;
-    expect_diagram(&rt, FIVE, "A et", "A (utc2et H)", Status::NotBuilt)?;
-    expect_diagram(&rt, FIVE, "D et", "D (utc2et H)", Status::NotBuilt)?;
-    expect_diagram(&rt, FIVE, "SCALE et", "SCALE (utc2et H)", Status::NotBuilt)?;
-    expect_diagram(
-        &rt,
-        FIVE,
-        "T00001 et",
-        "T00001 (utc2et H)",
-        Status::NotBuilt,
-    )?;
-    expect_diagram(&rt, FIVE, "E et", "E (clock H)", Status::NotBuilt)?;
+fn tells_a_fault_of_the_diagram(rt: HostRuntime) -> Result<(), Fail> {
+    for (diagram, message) in [
+        ("", "amphion: diagram: byte 0: bad form\n"),
+        (
+            "(diagram D1)\n(input U utc)\n",
+            "amphion: diagram: byte 27: no output\n",
+        ),
+        (
+            "(diagram D1)\n(output E et)\n",
+            "amphion: diagram: byte 27: no requirement\n",
+        ),
+        (
+            "(diagram D1)\n(input U zz)\n",
+            "amphion: diagram: byte 13: unknown name\n",
+        ),
+        (
+            "(diagram D1))\n",
+            "amphion: diagram: byte 12: unopened parenthesis\n",
+        ),
+    ] {
+        expect_made(&rt, TWO_ROUTINES, diagram, Status::File, "", message)?;
+    }
     Ok(())
 }
 
-const FIVE_PLACES: &str =
-    "(theory 1)\n(sort q double)\n(sort r double)\n(routine F (q r q r q) (f r))\n";
+/// A text of that many bytes, which goes on in a comment.
+fn commented(alloc: Global, text: &str, length: usize) -> Result<String, Fail> {
+    let mut made = String::from_str(alloc, text)?;
+    for _ in text.len()..length {
+        made.push(';')?;
+    }
+    Ok(made)
+}
 
-const FIVE_MEMBERS: &str =
-    "(diagram D)\n(input A q)\n(input B r)\n(output C r)\n(require (= C (f A B A B A)))\n";
+const LONG_THEORY: &str = "amphion: theory: longer than 1048576 bytes\n";
 
-const FIVE_MEMBERS_UNIT: &str =
-    "      SUBROUTINE D(A, B, C)\n      DOUBLE PRECISION A\n      DOUBLE PRECISION B\n      DOUBLE PRECISION C\n      CALL F(A, B, A, B, A, C)\n      END\n";
+const LONG_DIAGRAM: &str = "amphion: diagram: longer than 1048576 bytes\n";
 
 #[test]
-fn calls_a_routine_of_five_inputs(rt: HostRuntime) -> Result<(), Fail> {
+fn tells_that_a_file_is_too_long(rt: HostRuntime) -> Result<(), Fail> {
+    let theory = commented(rt.alloc(), TWO_ROUTINES, 1_048_576)?;
+    expect_made(&rt, theory.as_str(), CONV, Status::Ok, CONV_UNIT, "")?;
+    let theory = commented(rt.alloc(), TWO_ROUTINES, 1_048_577)?;
+    expect_made(&rt, theory.as_str(), CONV, Status::File, "", LONG_THEORY)?;
+    expect_shown(&rt, theory.as_str(), Status::File, "", LONG_THEORY)?;
+    let diagram = commented(rt.alloc(), CONV, 1_048_577)?;
     expect_made(
         &rt,
-        FIVE_PLACES,
-        FIVE_MEMBERS,
-        Status::Ok,
-        FIVE_MEMBERS_UNIT,
+        TWO_ROUTINES,
+        diagram.as_str(),
+        Status::File,
         "",
+        LONG_DIAGRAM,
     )?;
     Ok(())
 }
 
-/// The theory of two routines with further sorts and routines of numbered names.
-fn large_theory(alloc: Global, sorts: u32, routines: u32) -> Result<String, Fail> {
-    let mut text = String::from_str(
-        alloc,
-        "(theory 1)\n(sort utc (char 32))\n(sort et double)\n",
-    )?;
-    for i in 2..sorts {
-        text.push_str(format!(in alloc; "(sort s{i} double)\n")?.as_str())?;
+const DECLARATIONS: [&str; 32] = [
+    "(theory 1)\n",
+    "(sort time)\n",
+    "(sort point)\n",
+    "(sort surface)\n",
+    "(sort utc (char 32))\n",
+    "(sort et double)\n",
+    "(sort km double)\n",
+    "(sort angle double)\n",
+    "(sort body integer)\n",
+    "(sort frame (char 32))\n",
+    "(sort abcorr (char 5))\n",
+    "(sort vector (double 3) VEQU)\n",
+    "(sort matrix (double 3 3) MEQU)\n",
+    "(literal none abcorr \"NONE\")\n",
+    "(literal j2000 frame \"J2000\")\n",
+    "(literal sun body 10)\n",
+    "(routine UTC2ET (utc) (utc2et et))\n",
+    "(routine SPKEZP (body et frame abcorr body) (spkezp-pos vector) (spkezp-lt et))\n",
+    "(routine PXFORM (frame frame et) (pxform matrix))\n",
+    "(routine MXV (matrix vector) (mxv vector))\n",
+    "(routine VSUB (vector vector) (vsub vector))\n",
+    "(routine NEARPT (vector km km km) (nearpt-point vector) (nearpt-alt km))\n",
+    "(routine RECLAT (vector) (reclat-radius km) (reclat-lon angle) (reclat-lat angle))\n",
+    "(value VNORM vnorm (vector) km)\n",
+    "(function time-of (et) time)\n",
+    "(function utc-time (utc) time)\n",
+    "(function body-place (body time) point)\n",
+    "(function ellipsoid (frame body time km km km) surface)\n",
+    "(function nearest (surface point) point)\n",
+    "(function coords (frame body time point) vector)\n",
+    "(function longitude (frame body time point) angle)\n",
+    "(function latitude (frame body time point) angle)\n",
+];
+
+const AXIOMS: [&str; 5] = [
+    "(axiom (all ((x utc)) (= (utc-time x) (time-of (utc2et x)))))\n",
+    "(axiom (all ((f frame) (c body) (e et) (b body)) (= (coords f c (time-of e) (body-place b (time-of e))) (spkezp-pos b e f none c))))\n",
+    "(axiom (all ((f frame) (c body) (t time) (p km) (q km) (r km) (x point)) (= (coords f c t (nearest (ellipsoid f c t p q r) x)) (nearpt-point (coords f c t x) p q r))))\n",
+    "(axiom (all ((f frame) (c body) (t time) (x point)) (= (longitude f c t x) (reclat-lon (coords f c t x)))))\n",
+    "(axiom (all ((f frame) (c body) (t time) (x point)) (= (latitude f c t x) (reclat-lat (coords f c t x)))))\n",
+];
+
+/// Adds the lines, each behind a line like this one.
+fn push_lines(text: &mut String, before: &str, lines: &[&str]) -> Result<(), Fail> {
+    for line in lines {
+        text.push_str(before)?;
+        text.push_str(line)?;
     }
-    text.push_str("(routine UTC2ET (utc) (utc2et et))\n")?;
-    for i in 1..routines {
-        text.push_str(format!(in alloc; "(routine R{i} (et) (r{i} et))\n")?.as_str())?;
-    }
+    Ok(())
+}
+
+/// The example theory with a line before each line.
+fn example(alloc: Global, before: &str) -> Result<String, Fail> {
+    let mut text = String::new(alloc);
+    push_lines(&mut text, before, &DECLARATIONS)?;
+    push_lines(&mut text, before, &AXIOMS)?;
     Ok(text)
 }
 
-/// That a large theory is thin, or isn't.
-fn expect_large(
-    rt: &(impl Abort + AllocGlobal),
-    sorts: u32,
-    routines: u32,
-    status: Status,
-) -> Result<(), Fail> {
-    let theory = large_theory(rt.alloc(), sorts, routines)?;
-    let outcome = made(rt.alloc(), &["make", "t", "d"], theory.as_str(), CONV, None)?;
-    assert!(rt; outcome.status == status);
+#[test]
+fn shows_a_theory(rt: HostRuntime) -> Result<(), Fail> {
+    let remarked = example(rt.alloc(), "; (a remark\n")?;
+    let plain = example(rt.alloc(), "")?;
+    expect_shown(&rt, remarked.as_str(), Status::Ok, plain.as_str(), "")?;
     Ok(())
 }
 
-#[test]
-fn counts_sorts_and_routines(rt: HostRuntime) -> Result<(), Fail> {
-    expect_large(&rt, 256, 4_096, Status::Ok)?;
-    expect_large(&rt, 257, 1, Status::NotBuilt)?;
-    expect_large(&rt, 2, 4_097, Status::NotBuilt)?;
-    Ok(())
-}
+const COPYV: &str = "(diagram COPYV)\n(input V vector)\n(output W vector)\n(require (= W V))\n";
+
+const COPYV_UNIT: &str =
+    "      SUBROUTINE COPYV(V, W)\n      DOUBLE PRECISION V(3)\n      DOUBLE PRECISION W(3)\n      CALL VEQU(V, W)\n      END\n";
+
+const WHICH: &str = "(diagram WHICH)\n(output B body)\n(require (= B sun))\n";
+
+const WHICH_UNIT: &str = "      SUBROUTINE WHICH(B)\n      INTEGER B\n      B = 10\n      END\n";
+
+const LONLAT: &str =
+    "(diagram LONLAT)\n(input V vector)\n(output LON angle)\n(output LAT angle)\n(require (= LON (reclat-lon V)))\n(require (= LAT (reclat-lat V)))\n";
+
+const LONLAT_UNIT: &str =
+    "      SUBROUTINE LONLAT(V, LON, LAT)\n      DOUBLE PRECISION V(3)\n      DOUBLE PRECISION LON\n      DOUBLE PRECISION LAT\n      DOUBLE PRECISION T00001\n      CALL RECLAT(V, T00001, LON, LAT)\n      END\n";
+
+const LEN: &str = "(diagram LEN)\n(input V vector)\n(output R km)\n(require (= R (vnorm V)))\n";
+
+const LEN_UNIT: &str =
+    "      SUBROUTINE LEN(V, R)\n      DOUBLE PRECISION V(3)\n      DOUBLE PRECISION R\n      DOUBLE PRECISION VNORM\n      R = VNORM(V)\n      END\n";
 
 #[test]
-fn refuses_a_file_that_is_too_long(rt: HostRuntime) -> Result<(), Fail> {
-    let mut text = String::from_str(rt.alloc(), TWO_ROUTINES)?;
-    for _ in text.len()..1_048_577 {
-        text.push('x')?;
+fn makes_units_over_the_example(rt: HostRuntime) -> Result<(), Fail> {
+    let mut theory = String::new(rt.alloc());
+    push_lines(&mut theory, "", &DECLARATIONS)?;
+    for (diagram, unit) in [
+        (COPYV, COPYV_UNIT),
+        (WHICH, WHICH_UNIT),
+        (LONLAT, LONLAT_UNIT),
+        (LEN, LEN_UNIT),
+    ] {
+        expect_made(&rt, theory.as_str(), diagram, Status::Ok, unit, "")?;
     }
-    expect_made(&rt, text.as_str(), CONV, Status::NotBuilt, "", NO_THEORY)?;
-    expect_made(
-        &rt,
-        TWO_ROUTINES,
-        text.as_str(),
-        Status::NotBuilt,
-        "",
-        NO_DIAGRAM,
-    )?;
     Ok(())
 }
 
@@ -314,18 +369,26 @@ fn expect_words(
     Ok(())
 }
 
-const USAGE: &str = "usage: amphion make THEORY DIAGRAM\n";
+const USAGE: &str = "usage: amphion make THEORY DIAGRAM\n       amphion theory THEORY\n";
 
 #[test]
 fn reads_the_words(rt: HostRuntime) -> Result<(), Fail> {
     expect_words(&rt, &[], Status::Usage, USAGE)?;
     expect_words(&rt, &["make", "t"], Status::Usage, USAGE)?;
     expect_words(&rt, &["make", "t", "d", "x"], Status::Usage, USAGE)?;
+    expect_words(&rt, &["theory"], Status::Usage, USAGE)?;
+    expect_words(&rt, &["theory", "t", "d"], Status::Usage, USAGE)?;
     expect_words(&rt, &["help"], Status::Usage, USAGE)?;
     expect_words(&rt, &["mak", "t", "d"], Status::Usage, USAGE)?;
     expect_words(
         &rt,
         &["make", "x", "d"],
+        Status::Read,
+        "amphion: cannot read theory\n",
+    )?;
+    expect_words(
+        &rt,
+        &["theory", "x"],
         Status::Read,
         "amphion: cannot read theory\n",
     )?;
@@ -361,7 +424,7 @@ fn expect_cut(
 
 #[test]
 fn stops_at_a_failed_put(rt: HostRuntime) -> Result<(), Fail> {
-    // The lines have 28, 22, 24, 24 and 10 bytes.
+    // The lines have 28, 22, 25, 24 and 10 bytes.
     for (call, before, length) in [
         (1, 0, 28),
         (2, 28, 22),
@@ -379,6 +442,6 @@ fn stops_at_a_failed_put(rt: HostRuntime) -> Result<(), Fail> {
 #[test]
 fn numbers_the_statuses(rt: HostRuntime) {
     assert_eq!(rt; Status::Ok.code(), 0);
-    assert_eq!(rt; Status::Long.code(), 10);
+    assert_eq!(rt; Status::File.code(), 2);
     assert_eq!(rt; Status::NotBuilt.code(), 11);
 }

@@ -1,11 +1,25 @@
-use Rattle.am_top.proofs.Commands.{printed_from, right_from, complete_from}
+use Rattle.am_top.proofs.Commands.{printed_from, shown_from, right_from, file_of_make_from, file_of_theory_from, complete_at, complete_theory_at}
 use Rattle.am_top.proofs.command.run.Goals as goal
 
 pub returns-clause-printed : goal.returns-clause-printed
-returns-clause-printed g c = λ ok. printed_from _ _ c.answer_words-answer.result _ _ c.print.result c.answer_words-answer.ensures.answer c.print.ensures.status c.print.ensures.text ok
+returns-clause-printed g c = printed_from _ _ c.answer_words-answer.result c.print.result c.answer_words-answer.ensures.answer c.print.ensures.status _ _ c.print.ensures.text
 
 pub returns-clause-right : goal.returns-clause-right
 returns-clause-right g c = λ ok first second a b e ea eb. right_from _ a b
 
+pub returns-clause-shown : goal.returns-clause-shown
+returns-clause-shown g c = shown_from _ _ c.answer_words-answer.result c.print.result c.answer_words-answer.ensures.answer c.print.ensures.status _ _ c.print.ensures.text
+
+pub returns-clause-file_of_make : goal.returns-clause-file_of_make
+returns-clause-file_of_make g c = file_of_make_from _ _ c.answer_words-answer.result c.print.result c.answer_words-answer.ensures.answer c.print.ensures.status _ _ c.print.ensures.message
+
+pub returns-clause-file_of_theory : goal.returns-clause-file_of_theory
+returns-clause-file_of_theory g c = file_of_theory_from _ _ c.answer_words-answer.result c.print.result c.answer_words-answer.ensures.answer c.print.ensures.status _ _ c.print.ensures.message
+
 pub returns-clause-complete : goal.returns-clause-complete
-returns-clause-complete g c = complete_from _ _ c.answer_words-answer.result c.print.result _ _ _ c.answer_words-answer.ensures.answer c.answer_words-answer.ensures.unread c.print.ensures.status c.print.ensures.write
+returns-clause-complete g c = λ first second a b e ea eb t d terms u m calm_l calm_o calm_e.
+    complete_at _ _ c.answer_words-answer.result c.print.result c.answer_words-answer.ensures.answer c.print.ensures.status _ _ _ c.answer_words-answer.ensures.unread c.print.ensures.write calm_l calm_o calm_e first second a b e ea eb t d terms u m
+
+pub returns-clause-complete_theory : goal.returns-clause-complete_theory
+returns-clause-complete_theory g c = λ first a e ea cs read calm_l calm_o calm_e.
+    complete_theory_at _ _ c.answer_words-answer.result c.print.result c.answer_words-answer.ensures.answer c.print.ensures.status _ _ _ c.answer_words-answer.ensures.unread c.print.ensures.write calm_l calm_o calm_e first a e ea cs read

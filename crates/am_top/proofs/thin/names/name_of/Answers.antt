@@ -1,5 +1,0 @@
-use Rattle.am_top.proofs.Spelled.{name-utf8}
-use Rattle.am_top.proofs.thin.names.name_of.Goals as goal
-
-pub unreachable-requires : goal.unreachable-requires
-unreachable-requires c = c.in-Err.ensures.cases.0 (name-utf8 c.args.word.now c.requires)
