@@ -32,7 +32,7 @@ use Rattle.am_exec.specs.Effects.{read_by_call, set_by_call, call_terms, applied
 use Rattle.am_exec.specs.ItemFaults.{is_unknown_call, call_count, function_count, first_unset, fit_operands, fits_call, fits_function, is_target, are_targets, declared_names, lacks_dummy, is_large}
 use Rattle.am_exec.proofs.Held.{eq_is, eq_same, or_both}
 use Rattle.am_exec.proofs.Passing.{Passes}
-use Rattle.am_exec.proofs.Targets.{outputs-small}
+use Rattle.am_exec.proofs.Putting.{outputs-small}
 use Rattle.am_plan.proofs.Membership.{Among, Different, among-map, different-left, different-right}
 use Rattle.am_plan.proofs.Holding.{names_in, among-is, different-distinct, none-held, entries-zip}
 use Rattle.am_plan.proofs.Standing.{StandsFor, operands-set, operands-fit, operands-are}
