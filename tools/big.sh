@@ -1,4 +1,4 @@
-#!/bin/sh
+#!/bin/bash
 # Outside the gate: makes a theory file of 4,096 symbols, 2,000 axioms and a megabyte, and a diagram whose
 # twelve terms weigh as much as a goal may, and shows how long the built program takes over them.
 # Run it from anywhere; it takes the program that `rt run` built in crates/amphion.
@@ -28,7 +28,7 @@ awk -v bytes="$bytes" 'BEGIN { left = 1048576 - bytes; printf ";"; for (i = 2; i
     cat "$folder/axioms" - > "$folder/theory"
 echo "theory: $(wc -c < "$folder/theory") bytes, $(grep -c '^(axiom' "$folder/theory") axioms"
 time "$program" theory "$folder/theory" > "$folder/canonical"
-echo "canonical text: $(wc -c < "$folder/canonical") bytes, status $?"
+echo "canonical text: $(wc -c < "$folder/canonical") bytes"
 
 # The same routines without axioms, and twelve outputs: each term is a tree of routines over the inputs.
 grep -v '^(axiom\|^;' "$folder/axioms" > "$folder/plain"
