@@ -17,6 +17,7 @@ use Rattle.am_clause.specs.Distinct.{among, distinct}
 use Rattle.am_clause.specs.Merge.{merged}
 use Rattle.am_clause.specs.Variables.{Variable, same_variable, in_atom, in_literals, in_clause, in_formula, in_formulas, variables, variables_of, in_formula-Atom, in_formula-Not, in_formula-And, in_formula-Or, in_formula-Implies, in_formula-Iff, in_formulas-more}
 use Rattle.am_clause.specs.ClauseForm.{Lists, followed, product, products, unit, pos, neg, merged_clause, pos-Atom, neg-Atom, pos-Not, neg-Not, pos-And, neg-And, pos-Or, neg-Or, pos-Implies, neg-Implies, pos-Iff, neg-Iff}
+use Rattle.am_clause.specs.Bounded.{plain}
 use Rattle.am_clause.specs.Forms.{form}
 use Rattle.am_clause.proofs.Members.{any-flat, any-distinct, distinct-fewer, all-from, all-at}
 use Rattle.am_clause.proofs.Places.{same_variable-refl, same_variable-sound}
@@ -161,8 +162,15 @@ few_all f few (c ∷ cs) h =
     let l : length (variables (merged_clause c)) ≤ length (variables_of f) = few_of f c (and_left (list_all (λ v. among same_variable v (in_formula f)) (in_literals c)) (list_all (λ ls. list_all (λ v. among same_variable v (in_formula f)) (in_literals ls)) cs) h) in
     (omega arith, few_all f few cs (and_right (list_all (λ v. among same_variable v (in_formula f)) (in_literals c)) (list_all (λ ls. list_all (λ v. among same_variable v (in_formula f)) (in_literals ls)) cs) h))
 
-pub few-clauses : (f : Formula) → length (variables_of f) < 4000000000 → All IsFew (form true f)
+abbrev pub IsFewPlain : List Literal → Type 0
+IsFewPlain ls = length (variables (plain ls)) < 4000000000
+
+few_merged : (cs : Lists) → AllByRecursion IsFew cs → AllByRecursion IsFewPlain (map merged cs)
+few_merged [] h = tt
+few_merged (c ∷ cs) h = (h.0, few_merged cs h.1)
+
+pub few-clauses : (f : Formula) → length (variables_of f) < 4000000000 → All IsFewPlain (map merged (form true f))
 unfolding form
-few-clauses f few = All-from_recursion IsFew (pos f) (few_all f few (pos f)
+few-clauses f few = All-from_recursion IsFewPlain (map merged (pos f)) (few_merged (pos f) (few_all f few (pos f)
     (pos-pass (λ v. among same_variable v (in_formula f)) f
-    (all-from same_variable same_variable-sound same_variable-refl (λ v. among same_variable v (in_formula f)) (in_formula f) (λ v m. m))))
+    (all-from same_variable same_variable-sound same_variable-refl (λ v. among same_variable v (in_formula f)) (in_formula f) (λ v m. m)))))

@@ -1,5 +1,7 @@
 pub mod Bijections
+pub mod Bounds
 pub mod Clauses
+pub mod Excesses
 pub mod Fewer
 pub mod Firsts
 pub mod Lengths

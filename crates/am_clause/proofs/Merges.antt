@@ -8,34 +8,28 @@ use Rattle.am_term.specs.Same.{same_literal}
 use Rattle.am_term.proofs.Alike.{same_literal-refl, same_literal-sound}
 use Rattle.am_clause.specs.Distinct.{among, with_new}
 use Rattle.am_clause.specs.Merge.{merged}
-use Rattle.am_clause.proofs.Members.{any-distinct}
 use Rattle.am_clause.proofs.Firsts.{with_new-none, with_new-append, with_new-old, with_new-new, with_new-distinct}
 
 pub all-merged : (ls : List Literal) → with_new same_literal [] ls ≡ merged ls
 all-merged = with_new-distinct same_literal same_literal-sound same_literal-refl
 
--- the first i merged
-unfoldable pub merging_to : ℕ → List Literal → List Literal
-merging_to i ls = with_new same_literal [] (take i ls)
+-- the first i literals, added to what was kept
+unfoldable pub adding_to : ℕ → List Literal → List Literal → List Literal
+adding_to i kept ls = with_new same_literal kept (take i ls)
 
-pub merging-none : (ls : List Literal) → merging_to 0 ls ≡ []
-unfolding merging_to
-merging-none ls = with_new-none same_literal []
+pub adding-none : (kept ls : List Literal) → adding_to 0 kept ls ≡ kept
+unfolding adding_to
+adding-none kept ls = with_new-none same_literal kept
 
-one_more : (ls : List Literal) (i : ℕ) (d : Literal) → i < length ls → merging_to (i + 1) ls ≡ with_new same_literal (merging_to i ls) (get_or ls i d ∷ [])
-unfolding merging_to
-one_more ls i d h = ap (with_new same_literal []) (take_more ls i d h) ∙ with_new-append same_literal [] (take i ls) (get_or ls i d ∷ [])
+one_more : (kept ls : List Literal) (i : ℕ) (d : Literal) → i < length ls → adding_to (i + 1) kept ls ≡ with_new same_literal (adding_to i kept ls) (get_or ls i d ∷ [])
+unfolding adding_to
+one_more kept ls i d h = ap (with_new same_literal kept) (take_more ls i d h) ∙ with_new-append same_literal kept (take i ls) (get_or ls i d ∷ [])
 
--- the literals so far and those merged have the same members
-members : (ls : List Literal) (i : ℕ) (l : Literal) → among same_literal l (merging_to i ls) ≡ among same_literal l (take i ls)
-unfolding merging_to
-members ls i l = ap (among same_literal l) (all-merged (take i ls)) ∙ any-distinct same_literal same_literal-sound same_literal-refl (same_literal l) (take i ls)
+pub adding-old : (kept ls : List Literal) (i : ℕ) (d : Literal) → i < length ls → among same_literal (get_or ls i d) (adding_to i kept ls) ≡ true → adding_to (i + 1) kept ls ≡ adding_to i kept ls
+adding-old kept ls i d h e = one_more kept ls i d h ∙ with_new-old same_literal (adding_to i kept ls) (get_or ls i d) e
 
-pub merging-old : (ls : List Literal) (i : ℕ) (d : Literal) → i < length ls → among same_literal (get_or ls i d) (take i ls) ≡ true → merging_to (i + 1) ls ≡ merging_to i ls
-merging-old ls i d h e = one_more ls i d h ∙ with_new-old same_literal (merging_to i ls) (get_or ls i d) (members ls i (get_or ls i d) ∙ e)
-
-pub merging-new : (ls : List Literal) (i : ℕ) (d : Literal) → i < length ls → among same_literal (get_or ls i d) (take i ls) ≡ false → merging_to (i + 1) ls ≡ merging_to i ls ++ get_or ls i d ∷ []
-merging-new ls i d h e = one_more ls i d h ∙ with_new-new same_literal (merging_to i ls) (get_or ls i d) (members ls i (get_or ls i d) ∙ e)
+pub adding-new : (kept ls : List Literal) (i : ℕ) (d : Literal) → i < length ls → among same_literal (get_or ls i d) (adding_to i kept ls) ≡ false → adding_to (i + 1) kept ls ≡ adding_to i kept ls ++ get_or ls i d ∷ []
+adding-new kept ls i d h e = one_more kept ls i d h ∙ with_new-new same_literal (adding_to i kept ls) (get_or ls i d) e
 
 take_whole : (ls : List Literal) (i : ℕ) → length ls ≤ i → take i ls ≡ ls
 take_whole [] zero h = refl
@@ -43,8 +37,8 @@ take_whole [] (suc i) h = refl
 take_whole (l ∷ ls) zero h = absurd (omega arith)
 take_whole (l ∷ ls) (suc i) h = ap (λ xs. l ∷ xs) (take_whole ls i (omega arith))
 
-pub merging-all : (ls : List Literal) (i : ℕ) → length ls ≤ i → merging_to i ls ≡ merged ls
-unfolding merging_to
-merging-all ls i h = ap (with_new same_literal []) (take_whole ls i h) ∙ all-merged ls
+pub adding-all : (kept ls : List Literal) (i : ℕ) → length ls ≤ i → adding_to i kept ls ≡ with_new same_literal kept ls
+unfolding adding_to
+adding-all kept ls i h = ap (with_new same_literal kept) (take_whole ls i h)
 
-pub ruleset merging = (common_steps, list_any_more, list_any_at, merging-none, merging-old, merging-new, merging-all)
+pub ruleset merging = (common_steps, list_any_more, list_any_at, all-merged, adding-none, adding-old, adding-new, adding-all)

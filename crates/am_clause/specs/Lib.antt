@@ -1,6 +1,8 @@
+pub mod Bounded
 pub mod ClauseForm
 pub mod Count
 pub mod Distinct
+pub mod Exceeding
 pub mod Faults
 pub mod Forms
 pub mod Merge

@@ -1,15 +1,15 @@
 ghost use Rattle.std.specs.Prelude.{◌≡◌, ◌<◌, ◌≤◌, length, map, IfOk, IfErr, OnOk};
 ghost use Rattle.std.specs.List.{All};
 ghost use Rattle.am_clause.specs.Variables.{variables, variables_of};
-ghost use Rattle.am_clause.specs.ClauseForm.{cnf, merged_clause};
+ghost use Rattle.am_clause.specs.ClauseForm.{cnf};
+ghost use Rattle.am_clause.specs.Bounded.{plain};
 ghost use Rattle.am_clause.specs.Faults.{IsCause};
 ghost use Rattle.am_clause.specs.Renaming.{renumbered};
 
-use crate::building::build;
+use crate::building::{build, copy_literals};
 use crate::clause::Clause;
 use crate::counting::count_clauses;
 use crate::fault::ClauseFault;
-use crate::merging::merge;
 use crate::numbering::renumber;
 use am_term::{Formula, Literal, NoMemory};
 use sqlite_items::Items;
@@ -29,15 +29,18 @@ pub fn clauses_of(alloc: Global, formula: &Formula) -> Result<Items<Clause>, Cla
     if count > 64 {
         return Err(ClauseFault::TooManyClauses(count));
     }
-    let lists = build(alloc, formula, true)?;
+    // No list that is in memory is longer than `usize::MAX`.
+    let Some(lists) = build(alloc, formula, true, usize::MAX)? else {
+        return Err(ClauseFault::NoMemory);
+    };
     let clauses = finish_all(alloc, lists.as_slice())?;
     Ok(clauses)
 }
 
 #[tactic(auto, using(crate::proofs::Clauses::finishing))]
 fn finish_all(alloc: Global, lists: &[Items<Literal>]) -> Result<Items<Clause>, NoMemory>
-    requires few { All (λ ls. length (variables (merged_clause ls)) < 4000000000) lists.now }
-    ensures { IfOk result (λ cs. cs ≡ map (λ ls. renumbered (merged_clause ls)) lists.now) }
+    requires few { All (λ ls. length (variables (plain ls)) < 4000000000) lists.now }
+    ensures { IfOk result (λ cs. cs ≡ map (λ ls. renumbered (plain ls)) lists.now) }
 {
     let mut made = Items::new(alloc);
     for literals in lists {
@@ -48,10 +51,10 @@ fn finish_all(alloc: Global, lists: &[Items<Literal>]) -> Result<Items<Clause>, 
 
 #[tactic(auto, using(crate::proofs::Clauses::finishing))]
 fn finish(alloc: Global, literals: &[Literal]) -> Result<Clause, NoMemory>
-    requires few { length (variables (merged_clause literals.now)) < 4000000000 }
-    ensures { IfOk result (λ c. c ≡ renumbered (merged_clause literals.now)) }
+    requires few { length (variables (plain literals.now)) < 4000000000 }
+    ensures { IfOk result (λ c. c ≡ renumbered (plain literals.now)) }
 {
-    let literals = merge(alloc, literals)?;
+    let literals = copy_literals(alloc, literals)?;
     let clause = Clause {
         literals,
         answer: None,

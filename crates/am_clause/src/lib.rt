@@ -1,7 +1,7 @@
 //! Clauses: lists of literals of which one is true, with an answer read out along the way.
 //!
 //! `specs/` says what the calls give: `ClauseForm` the clauses of a formula, `Renaming` the numbering
-//! of a clause's variables, `Tautology` and `Size` what their names say. The crate rests on `am_term`.
+//! of a clause's variables, `Tautology`, `Size` and `Exceeding` what their names say. The crate rests on `am_term`.
 #![tactic(auto)]
 
 mod building;
@@ -9,6 +9,7 @@ mod clausal;
 mod clause;
 mod collecting;
 mod counting;
+mod exceeding;
 mod fault;
 mod laws;
 mod merging;
@@ -20,6 +21,7 @@ mod weighing;
 pub use clausal::clauses_of;
 pub use clause::Clause;
 pub use collecting::{clause_variables, formula_variables};
+pub use exceeding::exceeds;
 pub use fault::ClauseFault;
 pub use laws::{law_of_count, law_of_numbering};
 pub use merging::{contains, merge};

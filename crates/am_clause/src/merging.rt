@@ -1,6 +1,6 @@
 ghost use Rattle.std.specs.Prelude.{◌≡◌, IfOk};
 ghost use Rattle.am_term.specs.Same.{same_literal as is_same_literal};
-ghost use Rattle.am_clause.specs.Distinct.{among};
+ghost use Rattle.am_clause.specs.Distinct.{among, with_new};
 ghost use Rattle.am_clause.specs.Merge.{merged};
 
 use am_term::{Literal, NoMemory, copy_literal, same_literal};
@@ -12,10 +12,22 @@ use std::alloc::Global;
 pub fn merge(alloc: Global, literals: &[Literal]) -> Result<Items<Literal>, NoMemory>
     ensures { IfOk result (λ ls. ls ≡ merged literals.now) }
 {
-    let mut made = Items::new(alloc);
-    for i in 0..literals.len() {
-        if !contains(&literals[..i], &literals[i]) {
-            made.push(copy_literal(alloc, &literals[i])?)?;
+    add_new(alloc, Items::new(alloc), literals)
+}
+
+// What was kept, and behind it each of the literals that is new there.
+#[tactic(auto, using(crate::proofs::Merges::merging))]
+pub fn add_new(
+    alloc: Global,
+    kept: Items<Literal>,
+    literals: &[Literal],
+) -> Result<Items<Literal>, NoMemory>
+    ensures { IfOk result (λ ls. ls ≡ with_new is_same_literal kept literals.now) }
+{
+    let mut made = kept;
+    for literal in literals {
+        if !contains(made.as_slice(), literal) {
+            made.push(copy_literal(alloc, literal)?)?;
         }
     }
     Ok(made)

@@ -1,6 +1,6 @@
 use super::{
-    Clause, ClauseFault, clause_variables, clauses_of, formula_variables, is_tautology, renumber,
-    weight_of,
+    Clause, ClauseFault, clause_variables, clauses_of, exceeds, formula_variables, is_tautology,
+    renumber, weight_of,
 };
 use am_term::{Atom, Formula, Literal, NoMemory, SortId, SymId, Term};
 use sqlite_items::{Boxed, Items};
@@ -68,6 +68,24 @@ fn or_of_ands(alloc: Global, count: u32) -> Result<Formula, NoMemory> {
     let mut parts = Items::new(alloc);
     for _ in 0..count {
         parts.push(Formula::And(two(alloc, p(alloc, 0), p(alloc, 1))?))?;
+    }
+    Ok(Formula::Or(parts))
+}
+
+/// That, and one more clause or not.
+fn and_one_more(alloc: Global, count: u32, more: bool) -> Result<Formula, NoMemory> {
+    let formula = or_of_ands(alloc, count)?;
+    if more {
+        return Ok(Formula::And(two(alloc, formula, p(alloc, 2))?));
+    }
+    Ok(formula)
+}
+
+/// An `or` of so many times `a`.
+fn or_of_equals(alloc: Global, count: u32) -> Result<Formula, NoMemory> {
+    let mut parts = Items::new(alloc);
+    for _ in 0..count {
+        parts.push(p(alloc, 0))?;
     }
     Ok(Formula::Or(parts))
 }
@@ -241,10 +259,7 @@ fn limits(rt: HostRuntime) -> Result<(), Fail> {
         (70, false, 0, 0, 18_446_744_073_709_551_615),
         (1, false, 1000, 0, 18_446_744_073_709_551_615),
     ] {
-        let mut formula = or_of_ands(alloc, ands)?;
-        if more {
-            formula = Formula::And(two(alloc, formula, p(alloc, 2))?);
-        }
+        let mut formula = and_one_more(alloc, ands, more)?;
         for _ in 0..around {
             formula = iff(alloc, p(alloc, 1), formula)?;
         }
@@ -253,6 +268,58 @@ fn limits(rt: HostRuntime) -> Result<(), Fail> {
             Ok(clauses) => assert_eq!(rt; clauses.len(), length),
             Err(fault) => assert_eq!(rt; fault, ClauseFault::TooManyClauses(refused)),
         }
+    }
+    Ok(())
+}
+
+#[test]
+fn merges(rt: HostRuntime) -> Result<(), Fail> {
+    let alloc = rt.alloc();
+    let formula = or_of_equals(alloc, 5000)?;
+    assert!(rt; formula_variables(alloc, &formula)?.len() < 4_000_000_000);
+    match clauses_of(alloc, &formula) {
+        Ok(clauses) => {
+            let text = show(alloc, clauses.as_slice())?;
+            assert_eq!(rt; text.as_str(), "(+a)");
+        }
+        Err(_) => assert!(rt; false),
+    }
+    assert!(rt; !exceeds(alloc, &formula, 1)?);
+    Ok(())
+}
+
+#[test]
+fn literals_exceed(rt: HostRuntime) -> Result<(), Fail> {
+    let alloc = rt.alloc();
+    for (letters, most, expected) in [
+        // At the limit, and one past it.
+        ("abc||", 3, false),
+        ("abc||", 2, true),
+        // Equal literals are one; a literal and its negation are two.
+        ("abab|||", 2, false),
+        ("abab|||", 1, true),
+        ("aa!|", 1, true),
+        // One clause is enough.
+        ("aab|&", 1, true),
+        ("ab&", 1, false),
+        // The clause of no literals, and no clause.
+        ("F", 0, false),
+        ("T", 0, false),
+        ("a", 0, true),
+    ] {
+        let formula = read(alloc, letters)?;
+        assert_eq!(rt; exceeds(alloc, &formula, most)?, expected, "{letters}");
+    }
+    Ok(())
+}
+
+#[test]
+fn clauses_exceed(rt: HostRuntime) -> Result<(), Fail> {
+    let alloc = rt.alloc();
+    // An `or` of so many `and`s of two, and one more clause or not.
+    for (ands, more, expected) in [(6, false, false), (6, true, true), (70, false, true)] {
+        let formula = and_one_more(alloc, ands, more)?;
+        assert_eq!(rt; exceeds(alloc, &formula, 2)?, expected, "{ands}");
     }
     Ok(())
 }
