@@ -1,7 +1,7 @@
 -- Going over the dummies and the declarations.
 use Rattle.std.proofs.Common.{◌≡◌, ◌∙◌, ◌++◌, ◌&&◌, ◌<◌, ◌≤◌, ◌+◌, ◌-◌, ℕ, zero, suc, true, false, Bool, refl, sym, ap, arith, List, [], ◌∷◌, Option, Some, None, length, take, drop, slice_get, get_or, drop-cons, add-one, if◌then◌else◌}
 use Rattle.std.proofs.Math.Seq.{take-suc}
-use Rattle.std.proofs.lemmas.List.{drop_all, length-take-le}
+use Rattle.std.proofs.lemmas.List.{drop_all, length-take-le, map_more}
 use Rattle.std.proofs.lemmas.Grind.{common_steps}
 use Rattle.std.proofs.lemmas.Bool.Decides.{nat_tests}
 use Rattle.std.specs.Str.{bytes_eq}
@@ -64,4 +64,4 @@ module _ (t : Theory) (d : Diagram) (u : Subroutine) where
 pub bad-none : (t : Theory) (d : Diagram) (u : Subroutine) (ds : List Decl) → bad_declaration t d u (take (length ds) ds) (drop (length ds) ds) ≡ None
 bad-none t d u ds = ap (bad_declaration t d u (take (length ds) ds)) (drop_all (length ds) ds (omega arith))
 
-pub ruleset declaring = (common_steps, nat_tests, bad-step, bad-none)
+pub ruleset declaring = (common_steps, nat_tests, bad-step, bad-none, map_more)

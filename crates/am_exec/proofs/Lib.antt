@@ -2,6 +2,7 @@ pub mod Answering
 pub mod Declared
 pub mod Dummies
 pub mod Held
+pub mod Indexed
 pub mod Keeping
 pub mod Listed
 pub mod Names

@@ -1,20 +1,22 @@
-ghost use Rattle.std.specs.Prelude.{◌≡◌, ◌<◌, IfSome, ◌++◌, [], length, take, drop, slice_get, option_copied};
+ghost use Rattle.std.specs.Prelude.{◌≡◌, ◌<◌, IfOk, IfSome, ◌++◌, [], length, take, drop, slice_get, option_copied};
 ghost use Rattle.am_diagram.specs.Listed.{names_of};
 ghost use Rattle.am_exec.specs.Lawful.{dummies_of, further as declared_behind};
-ghost use Rattle.am_exec.specs.ItemFaults.{same_names as are_same_names, is_bad_head as is_head_bad, is_local as is_lawful_local, is_function as is_lawful_function, declares as is_declaring, is_bad_declaration as is_declaration_bad, lacks_dummy as is_dummy_lacking, declared_type as type_declared, may_be_set as is_settable};
+ghost use Rattle.am_exec.specs.ItemFaults.{same_names as are_same_names, is_bad_head as is_head_bad, is_local as is_lawful_local, is_function as is_lawful_function, declares as is_declaring, is_bad_declaration as is_declaration_bad, declared_names, lacks_dummy as is_dummy_lacking, declared_type as type_declared, may_be_set as is_settable};
+ghost use Rattle.am_exec.specs.Places.{type_at as type_declared_at};
 ghost use Rattle.am_exec.specs.Terms.{bad_declaration as first_bad};
 
-use crate::lookups::{
-    function_named, is_declared, is_fortran_name, is_listed, is_one_of, result_sort,
-};
+use crate::lookups::{function_named, is_fortran_name, is_listed, is_one_of, result_sort};
+use crate::name_index::NameIndex;
+use crate::scene::Scene;
 use crate::types::{have_one_type, is_text_of_any_length, type_of_dummy, type_of_function};
 use am_diagram::Diagram;
 use am_fortran::{Decl, FortranType, Unit};
-use am_term::{Name, SortId};
+use am_term::{Name, NoMemory, SortId};
 use am_theory::Theory;
+use std::alloc::Global;
 
 /// Whether the unit's name isn't the diagram's, or its dummies aren't the inputs and then the outputs.
-/// Takes no memory, as all in this file.
+/// Takes no memory, as all here that is given no allocator.
 #[tactic(auto, using(crate::proofs::Dummies::heads))]
 pub fn is_bad_head(diagram: &Diagram, unit: &Unit) -> bool
     ensures { result ≡ is_head_bad diagram.now unit.now }
@@ -52,29 +54,61 @@ fn same_names(names: &[Name], list: &[(Name, SortId)]) -> bool
 
 /// How many declarations stand before the first bad one, if one is bad.
 #[tactic(auto, using(crate::proofs::Dummies::declaring))]
-pub fn bad_declaration(theory: &Theory, diagram: &Diagram, unit: &Unit) -> Option<usize>
-    ensures value { result ≡ first_bad theory.now diagram.now unit.now [] unit.now.declarations }
-    ensures within { IfSome result (λ k. k < length unit.now.declarations) }
+pub fn bad_declaration(
+    alloc: Global,
+    theory: &Theory,
+    diagram: &Diagram,
+    unit: &Unit,
+) -> Result<Option<usize>, NoMemory>
+    ensures value { IfOk result (λ k. k ≡ first_bad theory.now diagram.now unit.now [] unit.now.declarations) }
+    ensures within { IfOk result (λ k. IfSome k (λ at. at < length unit.now.declarations)) }
 {
+    let mut names = NameIndex::new(alloc);
     let declarations = unit.declarations.as_slice();
     for i in 0..declarations.len() {
-        if is_bad_declaration(theory, diagram, unit, &declarations[..i], &declarations[i]) {
-            return Some(i);
+        let declaration = &declarations[i];
+        if is_bad_declaration(
+            theory,
+            diagram,
+            unit,
+            &names,
+            &declarations[..i],
+            declaration,
+        ) {
+            return Ok(Some(i));
         }
+        names = names.with(alloc, &declaration.name)?;
     }
-    None
+    Ok(None)
 }
 
+/// The names that are declared, in order.
+#[tactic(auto, using(crate::proofs::Indexed::indexing))]
+pub fn names_declared(alloc: Global, declarations: &[Decl]) -> Result<NameIndex, NoMemory>
+    ensures { IfOk result (λ names. names ≡ declared_names declarations.now) }
+{
+    let mut names = NameIndex::new(alloc);
+    let mut rest = declarations;
+    while let [declaration, behind @ ..] = rest {
+        names = names.with(alloc, &declaration.name)?;
+        rest = behind;
+    }
+    Ok(names)
+}
+
+// A declaration behind earlier ones, which declare these names.
 fn is_bad_declaration(
     theory: &Theory,
     diagram: &Diagram,
     unit: &Unit,
+    names: &NameIndex,
     earlier: &[Decl],
     declaration: &Decl,
 ) -> bool
+    requires { names.now ≡ declared_names earlier.now }
     ensures { result ≡ is_declaration_bad theory.now diagram.now unit.now earlier.now declaration.now }
 {
-    is_declared(&declaration.name, earlier)
+    names.contains(&declaration.name)
         || !declares(theory, diagram, unit, earlier.len(), declaration)
 }
 
@@ -145,23 +179,28 @@ pub fn further(unit: &Unit) -> &[Decl]
 }
 
 /// The type with which a name is declared, if it is.
-pub fn declared_type(unit: &Unit, name: &Name) -> Option<FortranType>
-    ensures { result ≡ type_declared unit.now name.now }
+pub fn declared_type(scene: &Scene, name: &Name) -> Option<FortranType>
+    ensures { result ≡ type_declared scene.now.unit.now name.now }
 {
-    let mut rest = unit.declarations.as_slice();
-    while let [declaration, behind @ ..] = rest {
-        if declaration.name.as_str() == name.as_str() {
-            return Some(declaration.ty);
-        }
-        rest = behind;
+    type_at(
+        scene.unit.declarations.as_slice(),
+        scene.declared.place(name),
+    )
+}
+
+fn type_at(declarations: &[Decl], place: Option<usize>) -> Option<FortranType>
+    ensures { result ≡ type_declared_at declarations.now place }
+{
+    match declarations.get(place?) {
+        Some(declaration) => Some(declaration.ty),
+        None => None,
     }
-    None
 }
 
 /// Whether the name is an output's, or is declared and neither a dummy's nor a function's.
-pub fn may_be_set(theory: &Theory, diagram: &Diagram, unit: &Unit, name: &Name) -> bool
-    ensures { result ≡ is_settable theory.now diagram.now unit.now name.now }
+pub fn may_be_set(scene: &Scene, name: &Name) -> bool
+    ensures { result ≡ is_settable scene.now.theory.now scene.now.diagram.now scene.now.unit.now name.now }
 {
-    is_listed(name, diagram.outputs.as_slice())
-        || (is_declared(name, further(unit)) && function_named(theory, name).is_none())
+    is_listed(name, scene.diagram.outputs.as_slice())
+        || (scene.behind.contains(name) && function_named(scene.theory, name).is_none())
 }

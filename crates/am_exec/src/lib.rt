@@ -10,6 +10,8 @@ mod declarations;
 mod effects;
 mod fault;
 mod faults;
+#[cfg(test)]
+mod fixtures;
 mod laws;
 mod lookups;
 mod name_index;

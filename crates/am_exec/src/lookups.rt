@@ -6,9 +6,8 @@ ghost use Rattle.am_theory.specs.declared.theory.FortranFunction.{FortranFunctio
 ghost use Rattle.am_diagram.specs.Listed.{names_of};
 ghost use Rattle.am_exec.specs.Literals.{literal_at as literal_with, sort_fits as is_sort_fitting, writes as is_written};
 ghost use Rattle.am_exec.specs.Run.{is_copy as is_copy_name, sort_listed as sort_under};
-ghost use Rattle.am_exec.specs.ItemFaults.{declared_names};
 
-use am_fortran::{Decl, Operand};
+use am_fortran::Operand;
 use am_term::{Name, SortId, SymId, fits};
 use am_theory::{FortranFunction, LitValue, Rep, Routine, Theory};
 
@@ -212,20 +211,6 @@ pub fn is_one_of(name: &Name, names: &[Name]) -> bool
     let mut rest = names;
     while let [entry, behind @ ..] = rest {
         if name.as_str() == entry.as_str() {
-            return true;
-        }
-        rest = behind;
-    }
-    false
-}
-
-/// Whether the name is declared by one of these.
-pub fn is_declared(name: &Name, declarations: &[Decl]) -> bool
-    ensures { result ≡ is_among name.now (declared_names declarations.now) }
-{
-    let mut rest = declarations;
-    while let [declaration, behind @ ..] = rest {
-        if name.as_str() == declaration.name.as_str() {
             return true;
         }
         rest = behind;

@@ -1,6 +1,7 @@
 ghost use Rattle.std.specs.Prelude.{◌≡◌, ◌++◌, ◌∷◌, [], ℕ, List, IfOk};
 ghost use Rattle.std.specs.HashMap.{get_by_text};
 ghost use Rattle.std.specs.Str.{bytes_eq};
+ghost use Rattle.am_term.specs.NameLists.{is_among};
 ghost use Rattle.am_exec.specs.Places.{first_place, or_at};
 
 use am_term::{Name, NoMemory};
@@ -44,6 +45,14 @@ impl NameIndex {
         ensures { result ≡ first_place name.now self.now }
     {
         self.places.get(name.as_str()).copied()
+    }
+
+    /// Whether the name is one of these. Takes no memory.
+    #[tactic(auto, using(crate::proofs::Indexed::indexing))]
+    pub fn contains(&self, name: &Name) -> bool
+        ensures { result ≡ is_among name.now self.now }
+    {
+        self.place(name).is_some()
     }
 
     /// The names with one more at the end.

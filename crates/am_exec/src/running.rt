@@ -5,7 +5,7 @@ ghost use Rattle.am_exec.specs.States.{inputs_held as held_at_start};
 ghost use Rattle.am_exec.specs.Effects.{put as put_all};
 ghost use Rattle.am_exec.specs.Terms.{terms, unless, stated as run_on, ended as run_to_end, terms_held as all_held, IsAnswer};
 
-use crate::declarations::{bad_declaration, is_bad_head, lacks_dummy};
+use crate::declarations::{bad_declaration, further, is_bad_head, lacks_dummy, names_declared};
 use crate::effects::effects;
 use crate::fault::{ExecFault, ExecKind};
 use crate::faults::{first_unset, has_wrong_count, has_wrong_sort, is_unknown};
@@ -38,18 +38,22 @@ pub fn symbolic(
             kind: ExecKind::BadDeclaration,
         });
     }
-    if let Some(k) = bad_declaration(theory, diagram, unit) {
+    if let Some(k) = bad_declaration(alloc, theory, diagram, unit)? {
         return Err(ExecFault {
             item: k as u32 + 2,
             kind: ExecKind::BadDeclaration,
         });
     }
     let sorts = input_sorts(alloc, diagram)?;
+    let declared = names_declared(alloc, unit.declarations.as_slice())?;
+    let behind = names_declared(alloc, further(unit))?;
     let scene = Scene {
         theory,
         diagram,
         unit,
         ins: sorts.as_slice(),
+        declared: &declared,
+        behind: &behind,
     };
     stated(alloc, &scene)
 }

@@ -9,9 +9,9 @@ ghost use Rattle.am_exec.specs.States.{is_held as is_name_held, operand_terms as
 ghost use Rattle.am_exec.specs.Effects.{literal_sort as sort_of_literal, applied_sort as sort_applied, assigned_sort as sort_assigned};
 ghost use Rattle.am_exec.specs.ItemFaults.{names_set, is_large as is_term_large, sets_twice as is_set_twice, is_target as is_lawful_target, are_targets, is_badly_declared as is_declared_badly, is_too_large as is_large_put};
 
-use crate::declarations::{declared_type, further, lacks_dummy, may_be_set};
+use crate::declarations::{declared_type, lacks_dummy, may_be_set};
 use crate::faults::{behind, copied_sort, copied_term, front, held_sort, is_held, literal_for};
-use crate::lookups::{argument_sorts, function_named, is_declared, result_sort, routine_named};
+use crate::lookups::{argument_sorts, function_named, result_sort, routine_named};
 use crate::operands::{MOST_NODES, name_in, operands_nodes};
 use crate::scene::Scene;
 use crate::store::Store;
@@ -93,7 +93,7 @@ pub fn is_badly_declared(scene: &Scene, store: &Store, statement: &Statement) ->
             function,
             ..
         } => {
-            !is_declared(function, further(scene.unit))
+            !scene.behind.contains(function)
                 || !is_target(scene, target, applied_sort(scene.theory, function))
         }
     }
@@ -143,8 +143,7 @@ fn is_target(scene: &Scene, target: &Name, sort: Option<SortId>) -> bool
     match sort {
         Some(sort) => {
             let wanted = type_of_name(scene.theory, scene.unit, target, sort);
-            may_be_set(scene.theory, scene.diagram, scene.unit, target)
-                && have_one_type(declared_type(scene.unit, target), wanted)
+            may_be_set(scene, target) && have_one_type(declared_type(scene, target), wanted)
         }
         None => false,
     }
