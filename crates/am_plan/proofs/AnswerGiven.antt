@@ -19,7 +19,7 @@ use Rattle.am_theory.specs.declared.theory.Theory.{Theory}
 use Rattle.am_theory.specs.Lookups.{rep_of, result_of, result_sort, function_named}
 use Rattle.am_theory.specs.Facts.{WellFormed as WellFormedTheory, IsConcrete, IsFunction}
 use Rattle.am_diagram.specs.declared.diagram.Diagram.{Diagram}
-use Rattle.am_diagram.specs.Listed.{sorts_in}
+use Rattle.am_diagram.specs.Listed.{sorts_in, names_of}
 use Rattle.am_diagram.specs.Facts.{WellFormed, IsFree}
 use Rattle.am_fortran.specs.declared.statement.Statement.{Statement}
 use Rattle.am_fortran.specs.declared.unit.Unit.{Unit as Subroutine}
@@ -35,7 +35,7 @@ use Rattle.am_plan.specs.declared.call.Callee.TheVariants as callee
 use Rattle.am_plan.specs.declared.call.PlannedCall.{PlannedCall}
 use Rattle.am_plan.specs.Calls.{calls, listed, made_by, made}
 use Rattle.am_plan.specs.Names.{output_for, Named, named_from, named, locals, name_of, local_name}
-use Rattle.am_plan.specs.Plan.{IsPlan, names_of, statement_of, copies, is_set, function_at, functions_used}
+use Rattle.am_plan.specs.Plan.{IsPlan, statement_of, copies, is_set, function_at, functions_used}
 use Rattle.am_plan.specs.Answers.{Serves, AllServe, IsAnswerFor}
 use Rattle.am_plan.specs.Laws.{PlanGivesAnswer}
 use Rattle.am_plan.proofs.Membership.{Among, Different, all-among, among-map, map-among, among-left, among-right, among-split, flat-among, among-flat, different-append}

@@ -25,6 +25,7 @@ use Rattle.am_theory.specs.Faults.{is_free_name}
 use Rattle.am_theory.specs.Facts.{WellFormed, IsSymbol, IsRoutine, IsFunction, IsLiteral, Stands, is_in_range, is_array, is_represented, copies_when_array}
 use Rattle.am_diagram.specs.declared.diagram.Diagram.{Diagram}
 use Rattle.am_diagram.specs.Facts.{WellFormed as DiagramWell}
+use Rattle.am_diagram.specs.Listed.{names_of, sorts_in}
 use Rattle.am_fortran.specs.declared.statement.Decl.{Decl}
 use Rattle.am_fortran.specs.declared.statement.Operand.{Operand}
 use Rattle.am_fortran.specs.declared.statement.Operand.TheVariants as operand
@@ -35,10 +36,10 @@ use Rattle.am_exec.specs.Types.{dummy_type}
 use Rattle.am_plan.specs.declared.call.Callee.{Callee}
 use Rattle.am_plan.specs.declared.call.Callee.TheVariants as callee
 use Rattle.am_plan.specs.declared.call.PlannedCall.{PlannedCall}
-use Rattle.am_plan.specs.Answers.{sorts_of, AllServe, IsAnswerFor}
+use Rattle.am_plan.specs.Answers.{AllServe, IsAnswerFor}
 use Rattle.am_plan.specs.Calls.{completed, listed, calls, outputs_at, value_at, made_at, made_by, made}
 use Rattle.am_plan.specs.Names.{Named, named, locals, name_of}
-use Rattle.am_plan.specs.Plan.{names_of, literal_or, literal_of, operand_for, routine_call, first_name, function_call, statement_at, statement_of, is_array_rep, copy_name, copy_to, is_set, copies, rep_or_double, dummy_decl, head_of, rep_of_sort, rep_of_head, local_decl, function_at, same_function, functions_used, function_decl, arguments}
+use Rattle.am_plan.specs.Plan.{literal_or, literal_of, operand_for, routine_call, first_name, function_call, statement_at, statement_of, is_array_rep, copy_name, copy_to, is_set, copies, rep_or_double, dummy_decl, head_of, rep_of_sort, rep_of_head, local_decl, function_at, same_function, functions_used, function_decl, arguments}
 use Rattle.am_plan.proofs.Membership.{Among, among-flat, all-among}
 use Rattle.am_plan.proofs.Operands.{operand-In, operand-App}
 use Rattle.am_plan.proofs.Reached.{Good, Applied, applied, fit-count, not-ready, all-good, args-among, self-among, IsCallOf, call-of, RoutineAt, FunctionAt, callee-at, made-there}
@@ -155,10 +156,10 @@ module _ (t : Theory) (h : WellFormed t) where
         by_test false = and_both (is_statement (copy_to t o (operand_for t d names x))) true (copy-well o (operand_for t d names x) (and_left (is_fortran_name o.0) (list_all is_fortran_name (names_of os)) e) (k x (inl refl))) refl
 
 -- the terms of an answer are good
-serves-good : (t : Theory) (d : Diagram) (os : List (List ℕ × SortId)) (xs : List Term) → AllServe t d os xs → AllByRecursion (Good t (sorts_of d.inputs)) xs
+serves-good : (t : Theory) (d : Diagram) (os : List (List ℕ × SortId)) (xs : List Term) → AllServe t d os xs → AllByRecursion (Good t (sorts_in d.inputs)) xs
 serves-good t d os [] a = tt
 serves-good t d [] (x ∷ xs) a = absurd a
-serves-good t d (o ∷ os) (x ∷ xs) a = (record { sorted = placed (sort_of t.sig (sorts_of d.inputs) x) a.0.sorted; ready = a.0.ready }, serves-good t d os xs a.1)
+serves-good t d (o ∷ os) (x ∷ xs) a = (record { sorted = placed (sort_of t.sig (sorts_in d.inputs) x) a.0.sorted; ready = a.0.ready }, serves-good t d os xs a.1)
   where
     placed : (s : Option SortId) → fits_place t.sig s o.1 ≡ true → is_some s ≡ true
     placed None e = absurd (true≢false (sym e))
@@ -175,7 +176,7 @@ module _ (t : Theory) (h : WellFormed t) (d : Diagram) (g : DiagramWell t d) (an
   all = flat_map completed answer
 
   abbrev ins : List SortId
-  ins = sorts_of d.inputs
+  ins = sorts_in d.inputs
 
   abbrev names : List Named
   names = named t d answer

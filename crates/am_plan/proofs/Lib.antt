@@ -19,6 +19,8 @@ pub mod Declared
 pub mod Reached
 pub mod Kept
 pub mod Keeping
-pub mod Sizes
+pub mod FingerprintLaws
+pub mod Fingerprinted
 pub mod UnitPlanned
 pub mod TermNames
+pub mod Serving

@@ -2,9 +2,10 @@
 use Rattle.std.proofs.Common.{◌≡◌, ◌∙◌, inl, inr, ◌++◌, ℕ, Bool, true, false, refl, sym, ap, subst, List, [], ◌∷◌, Option, Some, None, map, if◌then◌else◌}
 use Rattle.am_term.specs.declared.id.SortId.{SortId}
 use Rattle.am_term.specs.declared.term.Term.{Term}
+use Rattle.am_diagram.specs.Listed.{names_of}
 use Rattle.am_exec.specs.States.{Store}
 use Rattle.am_plan.specs.Names.{output_for, Named, local_by, locals}
-use Rattle.am_plan.specs.Plan.{names_of, is_set}
+use Rattle.am_plan.specs.Plan.{is_set}
 use Rattle.am_plan.proofs.Membership.{Among, Different, among-map, map-among, among-left, among-right}
 use Rattle.am_plan.proofs.Holding.{names_in}
 use Rattle.am_plan.proofs.TermNames.{Answered}

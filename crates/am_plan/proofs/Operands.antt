@@ -9,9 +9,10 @@ use Rattle.am_term.specs.declared.term.Term.TheViews.{the_lemmas}
 use Rattle.am_term.specs.declared.term.Term.TheVariants.{Var, In, App, outs-Var, outs-In, outs-App}
 use Rattle.am_theory.specs.declared.theory.Theory.{Theory}
 use Rattle.am_diagram.specs.declared.diagram.Diagram.{Diagram}
+use Rattle.am_diagram.specs.Listed.{names_of}
 use Rattle.am_fortran.specs.declared.statement.Operand.TheVariants as operand
 use Rattle.am_plan.specs.Names.{Named, name_of}
-use Rattle.am_plan.specs.Plan.{names_of, literal_or, literal_of, operand_at, operand_for, copies}
+use Rattle.am_plan.specs.Plan.{literal_or, literal_of, operand_at, operand_for, copies}
 
 pub operand-Var : (t : Theory) (d : Diagram) (names : List Named) (n : ℕ) (s : SortId) → operand_for t d names (Var n s) ≡ operand.Name (name_of names (Var n s))
 unfolding operand_for

@@ -21,7 +21,7 @@ use Rattle.am_theory.specs.Lookups.{rep_of, result_of, result_sort, function_nam
 use Rattle.am_theory.specs.Faults.{is_free_name}
 use Rattle.am_theory.specs.Facts.{WellFormed, IsConcrete, IsRoutine, IsFunction}
 use Rattle.am_diagram.specs.declared.diagram.Diagram.{Diagram}
-use Rattle.am_diagram.specs.Listed.{sorts_in}
+use Rattle.am_diagram.specs.Listed.{sorts_in, names_of}
 use Rattle.am_diagram.specs.Facts.{WellFormed as WellFormedDiagram, IsFree, all_names}
 use Rattle.am_fortran.specs.declared.statement.FortranType.{FortranType}
 use Rattle.am_fortran.specs.declared.statement.FortranType.TheVariants as fortran
@@ -33,7 +33,7 @@ use Rattle.am_exec.specs.ItemFaults.{same_names, is_bad_head, have_one_type, dec
 use Rattle.am_exec.specs.Terms.{bad_declaration}
 use Rattle.am_exec.proofs.Held.{eq_is, eq_same, or_both}
 use Rattle.am_plan.specs.Names.{local_name, Named}
-use Rattle.am_plan.specs.Plan.{names_of, rep_or_double, dummy_decl, head_of, rep_of_sort, rep_of_head, local_decl, function_decl, arguments}
+use Rattle.am_plan.specs.Plan.{rep_or_double, dummy_decl, head_of, rep_of_sort, rep_of_head, local_decl, function_decl, arguments}
 use Rattle.am_plan.proofs.Membership.{Among, Different, all-among, among-all, among-map, map-among, among-left, among-right, among-split, different-left, different-right, different-apart, different-append}
 use Rattle.am_plan.proofs.Holding.{not_among-is, among-is}
 use Rattle.am_plan.proofs.CallStatements.{find-named, distinct-different}

@@ -1,6 +1,6 @@
 -- Which answers there is a subroutine for.
-use Rattle.std.specs.Prelude.{◌≡◌, ◌≤◌, ◌&&◌, ℕ, Bool, true, false, Option, Some, None, List, [], ◌∷◌, map, slice_get, IsTrue}
-use Rattle.std.specs.List.{list_all, AllByRecursion}
+use Rattle.std.specs.Prelude.{◌≤◌, ◌&&◌, ℕ, Bool, true, false, Option, Some, None, List, [], ◌∷◌, slice_get, IsTrue}
+use Rattle.std.specs.List.{list_all}
 use Rattle.am_term.specs.declared.id.SortId.{SortId}
 use Rattle.am_term.specs.declared.symbol.Symbol.{Symbol}
 use Rattle.am_term.specs.declared.signature.Signature.{Signature}
@@ -12,6 +12,7 @@ use Rattle.am_term.specs.Sorting.{term_fits}
 use Rattle.am_term.specs.Weight.{nodes}
 use Rattle.am_theory.specs.declared.theory.Theory.{Theory}
 use Rattle.am_diagram.specs.declared.diagram.Diagram.{Diagram}
+use Rattle.am_diagram.specs.Listed.{sorts_in}
 
 abbrev pub weight_limit : ℕ
 weight_limit = 400
@@ -29,12 +30,9 @@ ready_step sig (Term-F.App f bs) = is_computable_symbol (slice_get sig.symbols f
 unfoldable pub is_ready : Signature → Term → Bool
 is_ready sig = fold-Term Bool (ready_step sig)
 
-abbrev pub sorts_of : List (List ℕ × SortId) → List SortId
-sorts_of = map (λ (e : List ℕ × SortId). e.1)
-
 -- a term for an output of this sort
 pub record Serves (t : Theory) (d : Diagram) (sort : SortId) (x : Term) : Type 0 where
-  pub sorted : IsTrue (term_fits t.sig (sorts_of d.inputs) x sort)
+  pub sorted : IsTrue (term_fits t.sig (sorts_in d.inputs) x sort)
   pub ready : IsTrue (is_ready t.sig x)
   pub small : nodes x ≤ weight_limit
 

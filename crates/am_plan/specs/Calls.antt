@@ -1,7 +1,6 @@
 -- Which calls an answer asks for: each different one once, at its first completion.
-use Rattle.std.specs.Prelude.{◌+◌, ◌++◌, ◌==◌, ◌&&◌, ◌||◌, ℕ, Bool, true, false, Option, Some, None, List, [], ◌∷◌, map, slice_get, option_map, cond}
+use Rattle.std.specs.Prelude.{◌+◌, ◌++◌, ◌==◌, ◌&&◌, ℕ, Bool, false, Option, Some, None, List, [], ◌∷◌, map, slice_get, option_map, cond}
 use Rattle.std.specs.List.{list_any, flat_map}
-use Rattle.am_term.specs.declared.id.SortId.{SortId}
 use Rattle.am_term.specs.declared.id.SymId.{SymId}
 use Rattle.am_term.specs.declared.term.Term.{Term}
 use Rattle.am_term.specs.declared.term.Term.TheOpen.{Term-F}

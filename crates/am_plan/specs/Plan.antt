@@ -1,5 +1,5 @@
 -- The subroutine of an answer: one statement for each call, and then the copies.
-use Rattle.std.specs.Prelude.{◌≡◌, ◌++◌, ◌==◌, ℕ, Bool, true, false, Option, Some, None, List, [], ◌∷◌, map, find, slice_get, slice_index_or, not, if◌then◌else◌}
+use Rattle.std.specs.Prelude.{◌≡◌, ◌++◌, ◌==◌, ℕ, Bool, false, Option, Some, None, List, [], ◌∷◌, map, find, slice_get, slice_index_or, not, if◌then◌else◌}
 use Rattle.std.specs.List.{flat_map}
 use Rattle.std.specs.Str.{bytes_eq}
 use Rattle.am_term.specs.declared.id.SortId.{SortId}
@@ -8,7 +8,6 @@ use Rattle.am_term.specs.declared.term.Term.{Term}
 use Rattle.am_term.specs.declared.term.Term.TheOpen.{Term-F}
 use Rattle.am_term.specs.declared.term.Term.TheViews.{out-Term}
 use Rattle.am_term.specs.NameLists.{is_among}
-use Rattle.am_term.specs.Sorting.{sort_of}
 use Rattle.am_clause.specs.Distinct.{distinct}
 use Rattle.am_theory.specs.declared.theory.Rep.{Rep}
 use Rattle.am_theory.specs.declared.theory.Rep.TheVariants.{Double}
@@ -20,7 +19,7 @@ use Rattle.am_theory.specs.declared.theory.FortranFunction.{FortranFunction}
 use Rattle.am_theory.specs.declared.theory.Theory.{Theory}
 use Rattle.am_theory.specs.Lookups.{rep_of, copy_of, result_sort}
 use Rattle.am_diagram.specs.declared.diagram.Diagram.{Diagram}
-use Rattle.am_fortran.specs.declared.statement.FortranType.{FortranType}
+use Rattle.am_diagram.specs.Listed.{names_of}
 use Rattle.am_fortran.specs.declared.statement.Decl.{Decl}
 use Rattle.am_fortran.specs.declared.statement.Operand.{Operand}
 use Rattle.am_fortran.specs.declared.statement.Operand.TheVariants as operand
@@ -33,9 +32,6 @@ use Rattle.am_plan.specs.declared.call.Callee.TheVariants as callee
 use Rattle.am_plan.specs.declared.call.PlannedCall.{PlannedCall}
 use Rattle.am_plan.specs.Calls.{calls, made_by, listed}
 use Rattle.am_plan.specs.Names.{Named, named, locals, name_of}
-
-abbrev pub names_of : List (List ℕ × SortId) → List (List ℕ)
-names_of = map (λ (e : List ℕ × SortId). e.0)
 
 -- ---- operands
 abbrev pub written_value : LitValue → Operand

@@ -75,8 +75,7 @@ pub fn calls(
 {
     let mut seen = Seen::new(alloc);
     collect_all(alloc, theory, answer, &mut seen)?;
-    let Seen { calls, sizes: _ } = seen;
-    Ok(calls)
+    Ok(seen.into_calls())
 }
 
 // The calls of the terms in turn, each behind what was seen unless it was seen.

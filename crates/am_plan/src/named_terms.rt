@@ -1,75 +1,75 @@
-ghost use Rattle.std.specs.Prelude.{◌≡◌, ℕ, List, map, min, IfOk};
-ghost use Rattle.am_term.specs.declared.term.Term.{Term};
-ghost use Rattle.am_term.specs.Same.{same_term};
-ghost use Rattle.am_term.specs.Weight.{nodes};
-ghost use Rattle.am_plan.specs.Names.{name_of as name_under};
+ghost use Rattle.std.specs.Prelude.{◌≡◌, ℕ, List, IfOk, nat_eq};
+ghost use Rattle.std.specs.HashMap.{get};
+ghost use Rattle.am_plan.specs.Names.{Named, name_of as name_under};
+ghost use Rattle.am_plan.specs.Fingerprints.{fingerprint as fingerprint_of_term, place_from};
 
-use am_term::{Name, NoMemory, Term, same, weight};
+use crate::fingerprinting::fingerprint_of;
+use crate::places::{behind, note};
+use am_term::{Name, NoMemory, Term, same};
 use sqlite_items::Items;
 use std::alloc::Global;
+use std::collections::HashMap;
 
-/// Terms with their names, and the nodes of each term, or 65,536 where there are more: so only terms of
-/// one size are compared.
+/// Terms with their names, and the place of the first term with each fingerprint: so a term is compared with
+/// those of its own fingerprint alone, of which there is hardly ever another.
 #[derive(Drop)]
 pub struct NamedTerms {
     pub entries: Items<(Name, Term)>,
-    pub sizes: Items<u32>,
-    ghost sized: { sizes ≡ map (λ (e : List ℕ × Term). min (nodes e.1) 65536) entries },
+    places: HashMap<u64, usize>,
+    ghost agrees: { (p : ℕ) → get nat_eq places p ≡ place_from (λ (e : Named). fingerprint_of_term e.1) p 0 entries },
 }
 
 /// The terms with their names, ready to be looked up.
-pub fn sized(alloc: Global, entries: Items<(Name, Term)>) -> Result<NamedTerms, NoMemory>
+pub fn indexed(alloc: Global, entries: Items<(Name, Term)>) -> Result<NamedTerms, NoMemory>
     ensures { IfOk result (λ ns. ns.entries ≡ entries) }
 {
-    let sizes = sizes_of(alloc, entries.as_slice())?;
-    Ok(NamedTerms { entries, sizes })
+    let places = places_of(alloc, entries.as_slice())?;
+    Ok(NamedTerms { entries, places })
 }
 
-#[tactic(auto, using(crate::proofs::Sizes::sizing))]
-fn sizes_of(alloc: Global, entries: &[(Name, Term)]) -> Result<Items<u32>, NoMemory>
-    ensures { IfOk result (λ ns. ns ≡ map (λ (e : List ℕ × Term). min (nodes e.1) 65536) entries.now) }
+// The first place of each fingerprint.
+fn places_of(alloc: Global, entries: &[(Name, Term)]) -> Result<HashMap<u64, usize>, NoMemory>
+    ensures { IfOk result (λ ps. (p : ℕ) → get nat_eq ps p ≡ place_from (λ (e : Named). fingerprint_of_term e.1) p 0 entries.now) }
 {
-    let mut made = Items::new(alloc);
+    let mut places = HashMap::new(alloc);
+    let mut place: usize = 0;
     let mut rest = entries;
     while let [entry, behind @ ..] = rest {
-        made.push(weight(&entry.1, 65_535))?;
+        note(fingerprint_of(&entry.1), place, &mut places)?;
+        place += 1;
         rest = behind;
     }
-    Ok(made)
+    Ok(places)
 }
 
 /// The name of a term; the empty text where no call makes it. Takes no memory.
-#[tactic(auto, using(crate::proofs::Sizes::sizing))]
+#[tactic(auto, using(crate::proofs::FingerprintLaws::naming))]
 pub fn name_of<'a>(names: &'a NamedTerms, term: &Term) -> &'a str
     ensures { result.now ≡ name_under names.now.entries term.now }
 {
-    let size = weight(term, 65_535);
-    let mut rest = names.entries.as_slice();
-    let mut left = names.sizes.as_slice();
-    while let [entry, behind @ ..] = rest {
-        match left {
-            [] => return "",
-            [other, further @ ..] => {
-                if is_term(&entry.1, *other, term, size) {
-                    return entry.0.as_str();
-                }
-                rest = behind;
-                left = further;
-            }
-        }
+    match first_place(names, fingerprint_of(term)) {
+        None => "",
+        Some(place) => listed_name(behind(names.entries.as_slice(), place), term),
     }
-    ""
 }
 
-// Whether two terms are one, by their sizes first.
-#[tactic(auto, using(crate::proofs::Sizes::sizing))]
-fn is_term(a: &Term, m: u32, b: &Term, n: u32) -> bool
-    requires first { m ≡ min (nodes a.now) 65536 }
-    requires second { n ≡ min (nodes b.now) 65536 }
-    ensures { result ≡ same_term a.now b.now }
+// The place of the first term with this fingerprint.
+fn first_place(names: &NamedTerms, fingerprint: u64) -> Option<usize>
+    ensures { result ≡ place_from (λ (e : Named). fingerprint_of_term e.1) fingerprint 0 names.now.entries }
 {
-    if m != n {
-        return false;
+    names.places.get(&fingerprint).copied()
+}
+
+// The name of a term, by comparing it with each.
+fn listed_name<'a>(entries: &'a [(Name, Term)], term: &Term) -> &'a str
+    ensures { result.now ≡ name_under entries.now term.now }
+{
+    let mut rest = entries;
+    while let [entry, behind @ ..] = rest {
+        if same(&entry.1, term) {
+            return entry.0.as_str();
+        }
+        rest = behind;
     }
-    same(a, b)
+    ""
 }

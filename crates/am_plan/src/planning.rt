@@ -2,15 +2,16 @@ ghost use Rattle.std.specs.Prelude.{◌≡◌, ◌++◌, IfOk, OnOk, map};
 ghost use Rattle.std.specs.List.{flat_map};
 ghost use Rattle.am_theory.specs.Facts.{WellFormed as TheoryFacts};
 ghost use Rattle.am_diagram.specs.Facts.{WellFormed as DiagramFacts};
+ghost use Rattle.am_diagram.specs.Listed.{names_of};
 ghost use Rattle.am_plan.specs.Answers.{IsAnswerFor};
 ghost use Rattle.am_plan.specs.Calls.{made_by};
 ghost use Rattle.am_plan.specs.Names.{locals, named_from};
-ghost use Rattle.am_plan.specs.Plan.{IsPlan, names_of, arguments, dummy_decl, local_decl, functions_used, function_decl, statement_of as statement_for, copies};
+ghost use Rattle.am_plan.specs.Plan.{IsPlan, arguments, dummy_decl, local_decl, functions_used, function_decl, statement_of as statement_for, copies};
 
 use crate::call::PlannedCall;
 use crate::calling::calls;
 use crate::declaring::{functions, push_dummies, push_locals};
-use crate::named_terms::{NamedTerms, sized};
+use crate::named_terms::{NamedTerms, indexed};
 use crate::naming::{made, named};
 use crate::stating::{push_copies, statements};
 use am_diagram::Diagram;
@@ -68,7 +69,7 @@ fn names(
 {
     let made = made(alloc, theory, calls)?;
     let entries = named(alloc, diagram.outputs.as_slice(), answer, made.as_slice())?;
-    sized(alloc, entries)
+    indexed(alloc, entries)
 }
 
 fn copy_name(alloc: Global, name: &Name) -> Result<Name, NoMemory>

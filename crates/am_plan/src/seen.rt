@@ -1,22 +1,25 @@
-ghost use Rattle.std.specs.Prelude.{◌≡◌, ◌++◌, ◌∷◌, [], ℕ, List, map, min, sum_by, IfOk, OnOk};
-ghost use Rattle.am_term.specs.declared.term.Term.{Term};
-ghost use Rattle.am_term.specs.Weight.{nodes};
+ghost use Rattle.std.specs.Prelude.{◌≡◌, ◌++◌, ◌∷◌, [], ℕ, OnOk, nat_eq};
+ghost use Rattle.std.specs.HashMap.{get};
 ghost use Rattle.am_clause.specs.Distinct.{among};
 ghost use Rattle.am_plan.specs.declared.call.PlannedCall.{PlannedCall};
 ghost use Rattle.am_plan.specs.Calls.{call_with, same_callee as are_same_callees, same_call};
+ghost use Rattle.am_plan.specs.Fingerprints.{call_fingerprint as fingerprint_of_call, place_from};
 
 use crate::call::{Callee, PlannedCall};
-use am_term::{NoMemory, Term, same_terms, weight};
+use crate::fingerprinting::call_fingerprint;
+use crate::places::{behind, note};
+use am_term::{NoMemory, Term, same_terms};
 use sqlite_items::Items;
 use std::alloc::Global;
+use std::collections::HashMap;
 
-/// The calls so far, each with the nodes of its terms, or 65,536 where there are more: so only calls of
-/// one size are compared term by term.
+/// The calls so far, and the place of the first call with each fingerprint: so a call is compared with those of
+/// its own fingerprint alone, of which there is hardly ever another.
 #[derive(Drop)]
 pub struct Seen {
     pub calls: Items<PlannedCall>,
-    pub sizes: Items<u32>,
-    ghost sized: { sizes ≡ map (λ (c : PlannedCall). min (sum_by nodes c.args) 65536) calls },
+    places: HashMap<u64, usize>,
+    ghost agrees: { (p : ℕ) → get nat_eq places p ≡ place_from fingerprint_of_call p 0 calls },
 }
 
 impl Seen {
@@ -26,73 +29,63 @@ impl Seen {
     {
         Seen {
             calls: Items::new(alloc),
-            sizes: Items::new(alloc),
+            places: HashMap::new(alloc),
         }
+    }
+
+    /// The calls.
+    pub fn into_calls(self) -> Items<PlannedCall>
+        ensures { result ≡ self.calls }
+    {
+        let Seen { calls, places: _ } = self;
+        calls
     }
 }
 
 /// The call is behind those before.
-#[tactic(auto, using(crate::proofs::Sizes::sizing))]
 pub fn add(seen: &mut Seen, call: PlannedCall) -> Result<(), NoMemory>
     ensures { OnOk result (seen.new.calls ≡ seen.old.calls ++ call ∷ []) }
 {
-    let size = size_of(call.args.as_slice());
-    seen.sizes.push(size)?;
-    if seen.calls.push(call).is_err() {
-        seen.sizes.pop();
+    let fingerprint = call_fingerprint(call.callee, call.args.as_slice());
+    let place = seen.calls.len();
+    seen.calls.push(call)?;
+    if note(fingerprint, place, &mut seen.places).is_err() {
+        seen.calls.pop();
         return Err(NoMemory);
     }
     Ok(())
 }
 
-/// The nodes of terms together, or 65,536 where there are more. Takes no memory.
-#[tactic(auto, using(crate::proofs::Sizes::sizing))]
-pub fn size_of(terms: &[Term]) -> u32
-    ensures { result ≡ min (sum_by nodes terms.now) 65536 }
-{
-    let mut total: u32 = 0;
-    let mut rest = terms;
-    while let [term, behind @ ..] = rest {
-        total = (total + weight(term, 65_535)).min(65_536);
-        rest = behind;
-    }
-    total
-}
-
 /// Whether the call at these terms is one of the calls. Takes no memory.
-#[tactic(auto, using(crate::proofs::Sizes::sizing))]
+#[tactic(auto, using(crate::proofs::FingerprintLaws::seeing))]
 pub fn is_called(callee: Callee, args: &[Term], seen: &Seen) -> bool
     ensures { result ≡ among same_call (call_with args.now callee) seen.now.calls }
 {
-    let size = size_of(args);
-    let mut rest = seen.calls.as_slice();
-    let mut left = seen.sizes.as_slice();
-    while let [call, behind @ ..] = rest {
-        match left {
-            [] => return false,
-            [other, further @ ..] => {
-                if is_call(callee, args, size, call, *other) {
-                    return true;
-                }
-                rest = behind;
-                left = further;
-            }
-        }
+    match first_place(seen, call_fingerprint(callee, args)) {
+        None => false,
+        Some(place) => is_listed(callee, args, behind(seen.calls.as_slice(), place)),
     }
-    false
 }
 
-// Whether the call at these terms is this one, by their sizes first.
-#[tactic(auto, using(crate::proofs::Sizes::sizing))]
-fn is_call(callee: Callee, args: &[Term], size: u32, call: &PlannedCall, other: u32) -> bool
-    requires size { size ≡ min (sum_by nodes args.now) 65536 }
-    requires other { other ≡ min (sum_by nodes call.now.args) 65536 }
-    ensures { result ≡ same_call (call_with args.now callee) call.now }
+// The place of the first call with this fingerprint.
+fn first_place(seen: &Seen, fingerprint: u64) -> Option<usize>
+    ensures { result ≡ place_from fingerprint_of_call fingerprint 0 seen.now.calls }
 {
-    if size != other {
-        return false;
+    seen.places.get(&fingerprint).copied()
+}
+
+// Whether the call at these terms is one of the calls, by comparing it with each.
+fn is_listed(callee: Callee, args: &[Term], calls: &[PlannedCall]) -> bool
+    ensures { result ≡ among same_call (call_with args.now callee) calls.now }
+{
+    let mut rest = calls;
+    while let [call, behind @ ..] = rest {
+        if same_callee(callee, call.callee) && same_terms(args, call.args.as_slice()) {
+            return true;
+        }
+        rest = behind;
     }
-    same_callee(callee, call.callee) && same_terms(args, call.args.as_slice())
+    false
 }
 
 fn same_callee(a: Callee, b: Callee) -> bool

@@ -3,9 +3,10 @@ ghost use Rattle.std.specs.List.{flat_map};
 ghost use Rattle.am_term.specs.declared.term.Term.{Term};
 ghost use Rattle.am_fortran.specs.declared.statement.Operand.TheVariants as operand;
 ghost use Rattle.am_theory.specs.Lookups.{copy_of as copy_at};
+ghost use Rattle.am_diagram.specs.Listed.{names_of};
 ghost use Rattle.am_plan.specs.Calls.{listed};
 ghost use Rattle.am_plan.specs.Names.{name_of as name_under};
-ghost use Rattle.am_plan.specs.Plan.{names_of, written_value as written, operand_for as operand_of, first_name as first_name_under, routine_call as call_of_routine, function_call as call_of_function, statement_of as statement_for, copy_name, copy_to as copied_to, is_set as is_name_set, copies as copies_of};
+ghost use Rattle.am_plan.specs.Plan.{written_value as written, operand_for as operand_of, first_name as first_name_under, routine_call as call_of_routine, function_call as call_of_function, statement_of as statement_for, copy_name, copy_to as copied_to, is_set as is_name_set, copies as copies_of};
 
 use crate::call::{Callee, PlannedCall};
 use crate::lookups::{copy_of, is_array, literal_of};

@@ -1,6 +1,6 @@
 use Rattle.std.proofs.Common.{◌≡◌, ◌++◌, length}
-use Rattle.am_plan.specs.Plan.{names_of}
 use Rattle.am_plan.proofs.planning.push_names.Given as goal
+use Rattle.am_diagram.specs.Listed.{names_of}
 
 -- what was made, with what is left, is all
 abbrev pub invariant-loop-rest : goal.invariant-loop-rest
