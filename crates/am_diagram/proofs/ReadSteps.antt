@@ -6,7 +6,7 @@ use Rattle.am_theory.specs.declared.theory.Theory.{Theory}
 use Rattle.am_diagram.specs.declared.draft.Draft.{Draft}
 use Rattle.am_diagram.specs.declared.fault.ReadError.{ReadError}
 use Rattle.am_diagram.specs.declared.fault.ReadError.TheVariants as errors
-use Rattle.am_diagram.specs.Reading.{◌>>=◌, Fails, declared, read_from}
+use Rattle.am_diagram.specs.Reading.{Fails, declared, read_from}
 
 pub read_on : (t : Theory) (d next : Draft) (f : Form) (fs : List Form) → declared t d f ≡ Ok next → read_from t d (f ∷ fs) ≡ read_from t next fs
 unfolding read_from

@@ -2,7 +2,6 @@
 -- declared: each kind is a condition of its own on the whole declaration. A kind is asked only where no
 -- earlier one holds.
 use Rattle.std.specs.Prelude.{◌||◌, ◌==◌, ◌+◌, ◌++◌, ℕ, Bool, false, not, Option, Some, None, List, ◌∷◌, map, length, nat_lt, if◌then◌else◌}
-use Rattle.am_term.specs.declared.id.SortId.{SortId}
 use Rattle.am_term.specs.declared.symbol.Symbol.{Symbol}
 use Rattle.am_term.specs.Names.{is_fortran_name, is_local_name}
 use Rattle.am_term.specs.NameLists.{is_among}

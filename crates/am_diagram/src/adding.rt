@@ -75,7 +75,7 @@ fn given_meanings(alloc: Global, tables: &Tables, draft: &Draft) -> Result<Items
     let scope = Scope {
         sig: &tables.theory.sig,
         numbers: &tables.symbols,
-        bound: bound.as_slice(),
+        bound: &bound,
     };
     literal_meanings(alloc, &scope, draft.givens.as_slice())
 }
@@ -91,7 +91,7 @@ fn requirement_meanings(
     let scope = Scope {
         sig: &tables.theory.sig,
         numbers: &tables.symbols,
-        bound: bound.as_slice(),
+        bound: &bound,
     };
     literal_meanings(alloc, &scope, draft.required.as_slice())
 }

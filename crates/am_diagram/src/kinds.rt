@@ -75,7 +75,7 @@ fn given_has(
     let scope = Scope {
         sig: &tables.theory.sig,
         numbers: &tables.symbols,
-        bound: bound.as_slice(),
+        bound: &bound,
     };
     Ok(atom_has(&scope, flaw, &literal.atom))
 }
@@ -93,7 +93,7 @@ fn requirement_has(
     let scope = Scope {
         sig: &tables.theory.sig,
         numbers: &tables.symbols,
-        bound: bound.as_slice(),
+        bound: &bound,
     };
     Ok(atom_has(&scope, flaw, &literal.atom))
 }

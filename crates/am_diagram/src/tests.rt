@@ -7,7 +7,7 @@ use am_term::{Atom, Literal, SortId, SymId, Term, same_literal, same_terms};
 use am_text::TextKind;
 use am_theory::{Theory, read_theory};
 use sqlite_items::Items;
-use std::alloc::Global;
+use std::alloc::{AllocGlobal, Global};
 use std::process::Abort;
 use std::test::Fail;
 
@@ -420,4 +420,63 @@ fn outputs_follow_all_objects(rt: HostRuntime) -> Result<(), Fail> {
     };
     assert!(rt; answer);
     Ok(())
+}
+
+/// The file of these texts around so many pieces is refused there and so.
+fn fails_at(
+    rt: &(impl Abort + AllocGlobal),
+    piece: &[u8],
+    count: u32,
+    after: &[u8],
+    fault: DiagramFault,
+) -> Result<(), Fail> {
+    let theory = read_theory(rt.alloc(), TIMES)?;
+    let bytes = numbered(rt.alloc(), b"(diagram D1)\n", piece, count, after)?;
+    assert_eq!(rt;
+        fault_of(rt.alloc(), &theory, bytes.as_slice()),
+        Some(fault)
+    );
+    Ok(())
+}
+
+/// A declaration over a limit has an earlier kind of fault too, or none. The declarations before it have
+/// 13 bytes and then 16, 17, 14 or 16 each.
+#[test]
+fn limits_come_last(rt: HostRuntime) -> Result<(), Fail> {
+    let place = 13 + 18 * 16;
+    let kind = DiagramKind::ReservedName;
+    fails_at(
+        &rt,
+        b"(input A# et)\n",
+        18,
+        b"(input T00001 et)\n",
+        DiagramFault { place, kind },
+    )?;
+    let place = 13 + 32 * 17;
+    let kind = DiagramKind::Limit;
+    fails_at(
+        &rt,
+        b"(object a# et)\n",
+        33,
+        b"(output E et)\n",
+        DiagramFault { place, kind },
+    )?;
+    let place = 13 + 256 * 14;
+    let kind = DiagramKind::Unbound;
+    fails_at(
+        &rt,
+        b"(given ready)\n",
+        256,
+        b"(given (later e e))\n",
+        DiagramFault { place, kind },
+    )?;
+    let place = 13 + 16 * 16;
+    let kind = DiagramKind::Limit;
+    fails_at(
+        &rt,
+        b"(require ready)\n",
+        17,
+        b"",
+        DiagramFault { place, kind },
+    )
 }

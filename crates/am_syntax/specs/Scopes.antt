@@ -30,7 +30,7 @@ pub record Scope : Type 0 where
 
 -- the scope that the code hands on
 abbrev pub scope_of : CodeScope → Scope
-scope_of s = record { names = s.numbers.now.names; symbols = map profile s.sig.now.symbols; parents = s.sig.now.parents; bound = s.bound.now }
+scope_of s = record { names = s.numbers.now.names; symbols = map profile s.sig.now.symbols; parents = s.sig.now.parents; bound = s.bound.now.entries }
 
 -- what the first of this name stands for
 abbrev pub standing_of : List ℕ → List Bound → Option Standing

@@ -4,9 +4,10 @@
 ghost use Rattle.std.specs.Prelude.{◌≡◌, IfOk, length};
 
 use crate::{
-    Bound, Flaw, NameTable, Naming, Scope, Standing, WrittenAtom, WrittenFormula, WrittenLiteral,
-    WrittenTerm, atom_has, atom_meaning, formula_has, formula_meaning, has_quantifier,
-    literal_meaning, named_formula, named_term, term_has, term_meaning, written_sort,
+    BoundTable, Flaw, NameTable, Naming, Scope, Standing, WrittenAtom, WrittenFormula,
+    WrittenLiteral, WrittenTerm, atom_has, atom_meaning, formula_has, formula_meaning,
+    has_quantifier, literal_meaning, named_formula, named_term, term_has, term_meaning,
+    written_sort,
 };
 use am_term::{
     Atom, Formula, Literal, Name, NoMemory, Signature, SortId, SymId, SymKind, Symbol, Term, same,
@@ -105,7 +106,7 @@ const SORTS: [(&str, Option<SortId>); 5] = [
 struct Names {
     sig: Signature,
     numbers: NameTable,
-    bound: Items<Bound>,
+    bound: BoundTable,
     variables: Items<(Name, SortId)>,
     inputs: Items<(Name, SortId)>,
 }
@@ -114,7 +115,7 @@ fn in_scope(names: &Names) -> Scope<'_> {
     Scope {
         sig: &names.sig,
         numbers: &names.numbers,
-        bound: names.bound.as_slice(),
+        bound: &names.bound,
     }
 }
 
@@ -178,15 +179,14 @@ fn numbers(alloc: Global) -> Result<NameTable, NoMemory> {
     Ok(numbers)
 }
 
-fn bound(alloc: Global) -> Result<Items<Bound>, NoMemory> {
-    let mut bound = Items::new(alloc);
+fn bound(alloc: Global) -> Result<BoundTable, NoMemory> {
+    let mut bound = BoundTable::new(alloc);
     for (name, standing) in [
         ("x", Standing::Variable { n: 0, sort: A }),
         ("y", Standing::Input { k: 1, sort: B }),
         ("z", Standing::Barred),
     ] {
-        let name = Name::new(alloc, name)?;
-        bound.push(Bound { name, standing })?;
+        bound = bound.with(alloc, &Name::new(alloc, name)?, standing)?;
     }
     Ok(bound)
 }

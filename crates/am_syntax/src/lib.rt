@@ -6,6 +6,7 @@
 //! again. The format is this project's own. The crate rests on `am_term` and `am_text`.
 #![tactic(auto)]
 
+mod bound_table;
 #[cfg(test)]
 mod flaw_tests;
 mod flaws;
@@ -20,6 +21,7 @@ mod shapes;
 mod table;
 mod written;
 
+pub use bound_table::BoundTable;
 pub use flaws::{atom_has, formula_has, has_quantifier, term_has};
 pub use forms::{atom_form, formula_form, term_form};
 pub use laws::{

@@ -12,12 +12,13 @@ use am_term::{Name, SortId, Symbol};
 pub fn standing(scope: &Scope, name: &Name) -> Option<Standing>
     ensures { result ≡ standing_of name.now (scope_of scope.now).bound }
 {
-    for bound in scope.bound {
-        if name.as_str() == bound.name.as_str() {
-            return Some(bound.standing);
-        }
+    match scope.bound.position(name) {
+        Some(k) => match scope.bound.entries.get(k as usize) {
+            Some(bound) => Some(bound.standing),
+            None => None,
+        },
+        None => None,
     }
-    None
 }
 
 // The symbol of this name.

@@ -1,3 +1,4 @@
+use crate::bound_table::BoundTable;
 use crate::table::NameTable;
 use am_term::{Name, Signature, SortId};
 
@@ -23,7 +24,7 @@ pub struct Bound {
 pub struct Scope<'a> {
     pub sig: &'a Signature,
     pub numbers: &'a NameTable,
-    pub bound: &'a [Bound],
+    pub bound: &'a BoundTable,
 }
 
 /// What can be wrong inside a term, an atom or a formula whose shape is right.

@@ -1,7 +1,7 @@
 -- What declarations add: representations, names and symbols.
-use Rattle.std.proofs.Common.{◌≡◌, ◌∙◌, ℕ, zero, suc, ◌+◌, ◌<◌, ◌≤◌, ◌^◌, Bool, true, false, List, [], ◌∷◌, ◌++◌, map, length, get_or, drop, Option, Some, None, refl, sym, ap, subst, arith, append_assoc, length-append}
-use Rattle.std.specs.Prelude.{◌||◌, ◌&&◌, not, ℤ, pos, negsuc, slice_get, IfSome, is_some}
-use Rattle.std.specs.List.{list_any, flat_map}
+use Rattle.std.proofs.Common.{◌≡◌, ◌∙◌, ℕ, zero, suc, ◌+◌, ◌<◌, ◌≤◌, ◌^◌, Bool, true, false, List, [], ◌∷◌, ◌++◌, map, length, get_or, drop, Option, Some, None, refl, sym, ap, arith, append_assoc, length-append}
+use Rattle.std.specs.Prelude.{◌||◌, ◌&&◌, not, ℤ, pos, negsuc, slice_get, is_some}
+use Rattle.std.specs.List.{flat_map}
 use Rattle.std.specs.Str.{bytes_eq}
 use Rattle.std.proofs.lemmas.Grind.{common_steps}
 use Rattle.std.proofs.lemmas.Bool.Decides.{nat_tests}
@@ -19,10 +19,9 @@ use Rattle.am_theory.specs.declared.theory.Routine.{Routine}
 use Rattle.am_theory.specs.declared.theory.FortranFunction.{FortranFunction}
 use Rattle.am_theory.specs.declared.theory.Axiom.{Axiom}
 use Rattle.am_theory.specs.declared.declaration.Typed.{Typed}
-use Rattle.am_theory.specs.declared.declaration.WrittenRep.{WrittenRep}
 use Rattle.am_theory.specs.Lookups.{listed_name}
 use Rattle.am_theory.specs.Contents.{Contents, extent, symbol_names, sort_numbers, numbers_from, with_symbol, output_profile, variable_of, with_decl}
-use Rattle.am_theory.specs.Faults.{names_in, is_out_of, is_bad_rep, axiom_names}
+use Rattle.am_theory.specs.Faults.{names_in, is_out_of, axiom_names}
 use Rattle.am_theory.specs.Limits.{length_limit, extent_limit}
 use Rattle.am_theory.specs.Additions.{any_among, are_new, with_outputs, with_called}
 use Rattle.am_theory.specs.declared.declaration.Declaration.TheVariants as decl

@@ -1,10 +1,9 @@
 -- What holds of a declaration that has no fault.
-use Rattle.std.proofs.Common.{◌≡◌, ◌∙◌, ℕ, Bool, true, false, cond, List, [], ◌∷◌, Option, Some, None, refl, sym, ap, subst}
+use Rattle.std.proofs.Common.{◌≡◌, ◌∙◌, ℕ, Bool, true, false, cond, List, [], ◌∷◌, Option, Some, None, refl, ap, subst}
 use Rattle.std.specs.Prelude.{◌||◌, ◌&&◌, not, IfSome}
 use Rattle.std.specs.List.{list_any}
 use Rattle.am_term.specs.NameLists.{is_among, are_distinct}
 use Rattle.am_syntax.specs.Positions.{position_of}
-use Rattle.am_syntax.specs.declared.written.WrittenFormula.{WrittenFormula}
 use Rattle.am_syntax.proofs.Positions.{none_of}
 use Rattle.am_theory.specs.declared.theory.LitValue.{LitValue}
 use Rattle.am_theory.specs.declared.declaration.WrittenRep.{WrittenRep}

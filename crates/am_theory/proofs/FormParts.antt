@@ -1,7 +1,7 @@
 -- What a form is, by its node.
 use Rattle.std.proofs.Common.{◌≡◌, ℕ, zero, suc, ◌+◌, ◌<◌, List, [], ◌∷◌, ◌++◌, length, map, take, get_or, Option, Some, None, refl, ap, ◌∙◌, arith}
 use Rattle.std.specs.Prelude.{ℤ}
-use Rattle.std.proofs.lemmas.List.{map_more, map_push}
+use Rattle.std.proofs.lemmas.List.{map_more}
 use Rattle.std.proofs.lemmas.Grind.{common_steps}
 use Rattle.am_text.specs.declared.form.Form.{Form}
 use Rattle.am_text.specs.declared.form.FormNode.{FormNode}
@@ -152,5 +152,3 @@ all_fails f (x ∷ xs) zero d lt e = rw e refl
 all_fails f (x ∷ xs) (suc i) d lt e = ap (with_first (f x)) (all_fails f xs i d (omega arith) e) ∙ fails_after (f x)
 
 pub ruleset list_laws = (common_steps, all_more, all_fails)
-
-pub ruleset map_laws = (common_steps, the_lemmas, map_more, map_push)

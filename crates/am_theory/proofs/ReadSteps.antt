@@ -1,6 +1,5 @@
 -- The reader, one declaration after the other, and faults of the text.
-use Rattle.std.proofs.Common.{◌≡◌, ◌∙◌, ℕ, suc, ◌+◌, ◌<◌, ◌≤◌, List, [], ◌∷◌, length, get_or, drop, add-one, drop-cons, Result, Ok, Err, refl, sym, ap, subst, inl, inr, arith}
-use Rattle.std.specs.Prelude.{◌⊎◌}
+use Rattle.std.proofs.Common.{◌≡◌, ◌∙◌, ℕ, ◌+◌, ◌<◌, ◌≤◌, List, length, get_or, drop, add-one, drop-cons, Result, Ok, Err, refl, sym, ap, subst, inl, inr}
 use Rattle.std.proofs.lemmas.Grind.{common_steps}
 use Rattle.std.proofs.lemmas.List.{drop_all}
 use Rattle.am_text.specs.declared.form.Form.{Form}
@@ -8,7 +7,7 @@ use Rattle.am_text.specs.declared.fault.TextFault.{TextFault}
 use Rattle.am_text.specs.declared.fault.TextKind.{TextKind}
 use Rattle.am_text.specs.declared.fault.TextKind.TheVariants as text
 use Rattle.am_text.specs.Scan.{read}
-use Rattle.am_text.specs.Answers.{no_memory, IsAnswer}
+use Rattle.am_text.specs.Answers.{IsAnswer}
 use Rattle.am_theory.specs.declared.fault.TheoryFault.{TheoryFault}
 use Rattle.am_theory.specs.declared.fault.ReadError.{ReadError}
 use Rattle.am_theory.specs.declared.fault.ReadError.TheVariants as errors

@@ -1,8 +1,6 @@
 pub mod Additions
 pub mod AxiomScope
-pub mod CanonicalText
 pub mod Contents
-pub mod DeclarationLaws
 pub mod Declarations
 pub mod Facts
 pub mod Faults
@@ -12,5 +10,3 @@ pub mod Lookups
 pub mod Reading
 pub mod Tabled
 pub mod Traces
-pub mod Spellable
-pub mod RoundTrip

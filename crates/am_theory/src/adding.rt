@@ -540,7 +540,7 @@ fn axiom_meaning(
     let scope = Scope {
         sig: &tables.theory.sig,
         numbers: &tables.symbols,
-        bound: bound.as_slice(),
+        bound: &bound,
     };
     formula_meaning(alloc, &scope, formula)
 }

@@ -15,7 +15,7 @@ use crate::limits::is_over_limit;
 use crate::reps::{is_badly_represented, lacks_copy};
 use crate::tables::Tables;
 use crate::theory::{LitValue, LiteralDecl};
-use am_syntax::{Bound, Flaw, NameTable, Scope, Standing, formula_has, has_quantifier};
+use am_syntax::{BoundTable, Flaw, NameTable, Scope, Standing, formula_has, has_quantifier};
 use am_term::{Name, NoMemory, SortId, SymId, akin};
 use sqlite_items::Items;
 use std::alloc::Global;
@@ -33,7 +33,7 @@ pub fn first_kind(
     let scope = Scope {
         sig: &tables.theory.sig,
         numbers: &tables.symbols,
-        bound: bound.as_slice(),
+        bound: &bound,
     };
     if has_unknown_name(tables, &scope, declaration) {
         return Ok(Some(TheoryKind::UnknownName));
@@ -76,12 +76,12 @@ fn bound_in(
     alloc: Global,
     tables: &Tables,
     declaration: &Declaration,
-) -> Result<Items<Bound>, NoMemory>
-    ensures { IfOk result (λ bs. bs ≡ bound_from (contents tables.now.theory) 0 (variables_in declaration.now)) }
+) -> Result<BoundTable, NoMemory>
+    ensures { IfOk result (λ bs. bs.entries ≡ bound_from (contents tables.now.theory) 0 (variables_in declaration.now)) }
 {
     match declaration {
         Declaration::Axiom { variables, .. } => bound_from(alloc, tables, variables.as_slice()),
-        _ => Ok(Items::new(alloc)),
+        _ => Ok(BoundTable::new(alloc)),
     }
 }
 
@@ -90,17 +90,16 @@ pub fn bound_from(
     alloc: Global,
     tables: &Tables,
     variables: &[Typed],
-) -> Result<Items<Bound>, NoMemory>
-    ensures { IfOk result (λ bs. bs ≡ bound_from (contents tables.now.theory) 0 variables.now) }
+) -> Result<BoundTable, NoMemory>
+    ensures { IfOk result (λ bs. bs.entries ≡ bound_from (contents tables.now.theory) 0 variables.now) }
 {
-    let mut made = Items::new(alloc);
+    let mut made = BoundTable::new(alloc);
     let mut number = 0u32;
     let mut rest = variables;
     while let [variable, behind @ ..] = rest {
-        let name = Name::new(alloc, variable.name.as_str())?;
         let sort = tables.sort_number(&variable.sort);
         let standing = Standing::Variable { n: number, sort };
-        made.push(Bound { name, standing })?;
+        made = made.with(alloc, &variable.name, standing)?;
         number = number.checked_add(1).ok_or(NoMemory)?;
         rest = behind;
     }

@@ -1,16 +1,15 @@
 ghost use Rattle.std.specs.Prelude.{◌≡◌, ◌||◌, ◌+◌, IfOk, nat_lt};
-ghost use Rattle.std.specs.List.{list_any};
 ghost use Rattle.am_syntax.specs.Scopes.{scope_of};
 ghost use Rattle.am_theory.specs.AxiomScope.{scope_in};
 ghost use Rattle.am_theory.specs.Contents.{contents};
 ghost use Rattle.am_theory.specs.Limits.{argument_limit, output_limit, call_limit};
-ghost use Rattle.am_theory.specs.Faults.{is_long_clause, has_many_clauses, is_past_symbols, is_over_limit};
+ghost use Rattle.am_theory.specs.Faults.{is_past_symbols, is_over_limit};
 
 use crate::declaration::Declaration;
 use crate::tables::Tables;
-use am_clause::{Clause, ClauseFault, clauses_of, formula_variables, law_of_count};
+use am_clause::exceeds;
 use am_syntax::{Scope, formula_meaning};
-use am_term::{Formula, NoMemory};
+use am_term::NoMemory;
 use std::alloc::Global;
 
 const SORT_LIMIT: usize = 256;
@@ -64,7 +63,7 @@ pub fn is_over_limit(
                 return Ok(true);
             }
             let formula = formula_meaning(alloc, scope, formula)?;
-            has_many_clauses(alloc, &formula)
+            exceeds(alloc, &formula, LITERAL_LIMIT)
         }
     }
 }
@@ -79,29 +78,4 @@ fn is_long_call(inputs: usize, outputs: usize) -> bool
     ensures { result ≡ (nat_lt argument_limit inputs || (nat_lt output_limit outputs || nat_lt call_limit (inputs + outputs))) }
 {
     inputs > ARGUMENT_LIMIT || (outputs > OUTPUT_LIMIT || inputs + outputs > CALL_LIMIT)
-}
-
-// Whether the formula has too many clauses, counted before any is built, or a clause with too many
-// literals; no memory too where it has so many variables that their numbers might exceed 32 bits.
-fn has_many_clauses(alloc: Global, formula: &Formula) -> Result<bool, NoMemory>
-    ensures { IfOk result (λ many. many ≡ has_many_clauses formula.now) }
-{
-    let variables = formula_variables(alloc, formula)?;
-    if variables.len() >= 4_000_000_000 {
-        return Err(NoMemory);
-    }
-    law_of_count();
-    match clauses_of(alloc, formula) {
-        Ok(clauses) => Ok(has_long_clause(clauses.as_slice())),
-        Err(ClauseFault::TooManyClauses(_)) => Ok(true),
-        Err(ClauseFault::NoMemory) => Err(NoMemory),
-    }
-}
-
-fn has_long_clause(clauses: &[Clause]) -> bool
-    ensures { result ≡ list_any is_long_clause clauses.now }
-{
-    clauses
-        .iter()
-        .any(|clause| clause.literals.len() > LITERAL_LIMIT)
 }

@@ -8,7 +8,7 @@ use std::process::Abort;
 use std::test::Fail;
 
 /// Files whose first fault is at the mark `!`, which is no part of the file.
-const FAULTS: [(&[u8], TheoryKind); 77] = [
+const FAULTS: [(&[u8], TheoryKind); 85] = [
     (b"(theory 1)\n!)", TheoryKind::Text(TextKind::Unopened)),
     (
         b"(theory 2)\n(sort a!",
@@ -259,6 +259,38 @@ const FAULTS: [(&[u8], TheoryKind); 77] = [
         b"(theory 1)\n(sort n integer)\n(sort d double)\n(literal one n 1)\n!(literal one d 1)\n",
         TheoryKind::Twice,
     ),
+    (
+        b"(theory 1)\n(sort a)\n(relation p (a))\n!(relation p (b))\n",
+        TheoryKind::UnknownName,
+    ),
+    (
+        b"(theory 1)\n(sort a)\n(sort b)\n(relation p (a))\n!(axiom (all ((x b) (x b)) (p x)))\n",
+        TheoryKind::Twice,
+    ),
+    (
+        b"(theory 1)\n(sort a)\n(relation p (a))\n!(axiom (p x x))\n",
+        TheoryKind::BadArity,
+    ),
+    (
+        b"(theory 1)\n!(sort v (double 0) copy)\n",
+        TheoryKind::BadRep,
+    ),
+    (
+        b"(theory 1)\n(sort w (char 2))\n(sort a double)\n(routine GET (a) (f a))\n!(value GET g (w) w)\n",
+        TheoryKind::BadRep,
+    ),
+    (
+        b"(theory 1)\n(sort a double)\n!(value get f (a a a a a a a a a a a a a) a)\n",
+        TheoryKind::BadFortranName,
+    ),
+    (
+        b"(theory 1)\n(sort a double)\n(routine GET (a) (f a))\n!(routine GET (a a a a a a a a a a a a a) (g a))\n",
+        TheoryKind::NameClash,
+    ),
+    (
+        b"(theory 1)\n(sort !a0123456789012345678901234567890123456789012345678)\n",
+        TheoryKind::Text(TextKind::BadAtom),
+    ),
     (b"(theory 1) (sort a) !(sort a)", TheoryKind::Twice),
 ];
 
@@ -506,4 +538,61 @@ fn literals_are_counted_after_merging(rt: HostRuntime) -> Result<(), Fail> {
         b"(axiom (or ",
     )?;
     limit_is(&rt, alloc, declared.as_slice(), b"r# ", 16, b"))\n")
+}
+
+/// The first fault of these texts around so many pieces.
+fn fault_of(
+    alloc: Global,
+    before: &[u8],
+    piece: &[u8],
+    count: u32,
+    after: &[u8],
+) -> Result<Option<TheoryFault>, Fail> {
+    let bytes = numbered(alloc, before, piece, count, after)?;
+    Ok(read_theory(alloc, bytes.as_slice()).err())
+}
+
+/// The first of the relations has 11 bytes before it, and each has 20 bytes.
+#[test]
+fn last_of_many_declarations_is_found(rt: HostRuntime) -> Result<(), Fail> {
+    let fault = fault_of(
+        rt.alloc(),
+        b"(theory 1)\n",
+        b"(relation r# ())\n",
+        4000,
+        b"(relation last (nothing))\n",
+    )?;
+    let place = 80_011;
+    let kind = TheoryKind::UnknownName;
+    assert_eq!(rt; fault, Some(TheoryFault { place, kind }));
+    Ok(())
+}
+
+/// An axiom with too many clauses or variables has an earlier kind of fault too.
+#[test]
+fn limits_come_last(rt: HostRuntime) -> Result<(), Fail> {
+    for (piece, end, kind) in [
+        (
+            b"p ".as_slice(),
+            b"(exists)))\n".as_slice(),
+            TheoryKind::Quantifier,
+        ),
+        (
+            b"p ".as_slice(),
+            b"(= a x)))\n".as_slice(),
+            TheoryKind::Unbound,
+        ),
+        (
+            b"p ".as_slice(),
+            b"(p x)))\n".as_slice(),
+            TheoryKind::BadArity,
+        ),
+        (b"p ".as_slice(), b"p))\n".as_slice(), TheoryKind::Limit),
+    ] {
+        let before = b"(theory 1)\n(relation p ())\n(axiom (and ";
+        let fault = fault_of(rt.alloc(), before, piece, 64, end)?;
+        let place = 27;
+        assert_eq!(rt; fault, Some(TheoryFault { place, kind }));
+    }
+    Ok(())
 }

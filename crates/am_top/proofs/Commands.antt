@@ -5,7 +5,7 @@ use Rattle.am_outside.specs.Growth.{Grows}
 use Rattle.am_world.specs.Interpretation.{Interpretation, IsWorld}
 use Rattle.am_theory.specs.declared.theory.Theory.{Theory as TheoryValue}
 use Rattle.am_theory.specs.Contents.{Contents, contents}
-use Rattle.am_theory.specs.CanonicalText.{canon}
+use Rattle.am_canon.specs.CanonicalText.{canon}
 use Rattle.am_theory.specs.Reading.{theory}
 use Rattle.am_diagram.specs.declared.diagram.Diagram.{Diagram as DiagramValue}
 use Rattle.am_diagram.specs.declared.fault.DiagramFault.{DiagramFault}

@@ -19,7 +19,7 @@ use Rattle.am_diagram.specs.Listed.{sorts_in}
 use Rattle.am_exec.specs.Given.{Given, Spec, numbered}
 use Rattle.am_plan.specs.Answers.{is_ready, is_computable_symbol, AllServe}
 use Rattle.am_top.specs.Direct.{IsDirect, equations_from}
-use Rattle.am_top.proofs.Directness.{is_ready-Var, is_ready-App}
+use Rattle.am_plan.proofs.Serving.{is_ready-Var, is_ready-App}
 
 -- ---- what has no variables
 

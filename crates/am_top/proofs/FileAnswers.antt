@@ -8,7 +8,7 @@ use Rattle.am_theory.specs.declared.fault.TheoryFault.{TheoryFault}
 use Rattle.am_theory.specs.Contents.{contents}
 use Rattle.am_theory.specs.Facts.{WellFormed as WellFormedTheory}
 use Rattle.am_theory.specs.Limits.{file_limit}
-use Rattle.am_theory.specs.CanonicalText.{canonical_text}
+use Rattle.am_canon.specs.CanonicalText.{canonical_text}
 use Rattle.am_theory.specs.Reading.{theory, no_memory as no_theory_memory}
 use Rattle.am_diagram.specs.declared.diagram.Diagram.{Diagram as DiagramValue}
 use Rattle.am_diagram.specs.declared.fault.DiagramFault.{DiagramFault}

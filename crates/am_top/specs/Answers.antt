@@ -5,7 +5,7 @@ use Rattle.am_outside.specs.Growth.{WhereTold}
 use Rattle.am_theory.specs.declared.theory.Theory.{Theory}
 use Rattle.am_theory.specs.declared.fault.TheoryFault.{TheoryFault}
 use Rattle.am_theory.specs.Contents.{Contents, contents}
-use Rattle.am_theory.specs.CanonicalText.{canon}
+use Rattle.am_canon.specs.CanonicalText.{canon}
 use Rattle.am_theory.specs.Limits.{file_limit}
 use Rattle.am_theory.specs.Reading.{theory}
 use Rattle.am_diagram.specs.declared.diagram.Diagram.{Diagram}

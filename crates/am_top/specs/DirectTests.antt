@@ -1,19 +1,15 @@
 -- How direct diagrams are told from others.
-use Rattle.std.specs.Prelude.{◌≡◌, ◌+◌, ◌&&◌, ℕ, Bool, true, false, Option, Some, None, List, [], ◌∷◌, nat_le, IsTrue}
+use Rattle.std.specs.Prelude.{◌≡◌, ◌+◌, ◌&&◌, ℕ, Bool, true, false, Option, Some, None, List, [], ◌∷◌, IsTrue}
 use Rattle.std.specs.List.{flat_map}
 use Rattle.am_term.specs.declared.id.SortId.{SortId}
-use Rattle.am_term.specs.declared.signature.Signature.{Signature}
 use Rattle.am_term.specs.declared.term.Term.{Term}
 use Rattle.am_term.specs.declared.term.Term.TheVariants.{Var}
 use Rattle.am_term.specs.declared.term.Atom.{Atom}
 use Rattle.am_term.specs.declared.term.Atom.TheVariants.{Rel, Eq}
 use Rattle.am_term.specs.declared.term.Literal.{Literal}
 use Rattle.am_term.specs.Same.{same_term}
-use Rattle.am_term.specs.Sorting.{term_fits}
-use Rattle.am_term.specs.Weight.{nodes}
 use Rattle.am_theory.specs.declared.theory.Theory.{Theory}
 use Rattle.am_diagram.specs.declared.diagram.Diagram.{Diagram}
-use Rattle.am_plan.specs.Answers.{is_ready, weight_limit}
 use Rattle.am_top.specs.Direct.{IsDirect}
 
 -- an equation whose left side is the variable of this number and sort
@@ -42,17 +38,6 @@ right_sides ls = flat_map (λ (l : Literal). right_side l.atom) ls
 -- no object, no given, and an equation for each output
 abbrev pub IsPlain : Diagram → Type 0
 IsPlain d = (d.objects ≡ []) × (d.givens ≡ []) × IsTrue (are_equations 0 d.outputs d.required)
-
--- a term for an output of this sort
-abbrev pub is_server : Signature → List SortId → SortId → Term → Bool
-is_server sig ins s x = term_fits sig ins x s && (is_ready sig x && nat_le (nodes x) weight_limit)
-
--- one term for each output
-abbrev pub are_servers : Signature → List SortId → List (List ℕ × SortId) → List Term → Bool
-are_servers sig ins [] [] = true
-are_servers sig ins [] (x ∷ xs) = false
-are_servers sig ins (o ∷ os) [] = false
-are_servers sig ins (o ∷ os) (x ∷ xs) = is_server sig ins o.1 x && are_servers sig ins os xs
 
 -- the terms by which a diagram is direct, or that there are none
 abbrev pub IsDirectBy : Theory → Diagram → Option (List Term) → Type 0

@@ -11,12 +11,13 @@ use crate::direct::direct_answer;
 use crate::loaded::Loaded;
 use crate::messages::{diagram_message, theory_message};
 use crate::requests::{Request, read_words};
+use am_canon::write_theory;
 use am_diagram::{Diagram, DiagramFault, DiagramKind, read_diagram};
 use am_fortran::write_unit;
 use am_outside::{Fetched, Library};
 use am_plan::plan;
 use am_text::TextKind;
-use am_theory::{Theory, TheoryFault, TheoryKind, read_theory, write_theory};
+use am_theory::{Theory, TheoryFault, TheoryKind, read_theory};
 use std::alloc::Global;
 
 // The fault of a theory file that has more bytes than a file may have.

@@ -5,7 +5,7 @@ ghost use Rattle.am_outside.specs.Growth.{Grows, GrowsByPart};
 ghost use Rattle.am_world.specs.Interpretation.{IsWorld};
 ghost use Rattle.am_theory.specs.declared.theory.Theory.{Theory};
 ghost use Rattle.am_theory.specs.Contents.{Contents};
-ghost use Rattle.am_theory.specs.CanonicalText.{canon};
+ghost use Rattle.am_canon.specs.CanonicalText.{canon};
 ghost use Rattle.am_theory.specs.Reading.{theory as theory_of};
 ghost use Rattle.am_diagram.specs.declared.diagram.Diagram.{Diagram};
 ghost use Rattle.am_exec.specs.Right.{Right};

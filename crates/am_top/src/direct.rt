@@ -1,14 +1,11 @@
-ghost use Rattle.std.specs.Prelude.{◌≡◌, ◌+◌, ◌≤◌, ◌++◌, ◌↔◌, IsTrue, length, slice_get, IfOk, OnOk};
-ghost use Rattle.am_plan.specs.Answers.{is_ready as is_ready_term, is_computable_symbol, sorts_of};
+ghost use Rattle.std.specs.Prelude.{◌≡◌, ◌+◌, ◌≤◌, ◌++◌, ◌↔◌, IsTrue, length, IfOk, OnOk};
 ghost use Rattle.am_diagram.specs.Limits.{dummy_limit};
-ghost use Rattle.am_top.specs.DirectTests.{has_left as has_left_side, is_equation as is_equation_of, are_equations as are_equations_of, right_side, right_sides as right_sides_of, IsPlain, is_server, are_servers as are_servers_of, IsDirectBy};
+ghost use Rattle.am_top.specs.DirectTests.{has_left as has_left_side, is_equation as is_equation_of, are_equations as are_equations_of, right_side, right_sides as right_sides_of, IsPlain, IsDirectBy};
 
 use am_clause::weight_of;
 use am_diagram::{Diagram, goal_of};
-use am_term::{
-    Atom, Ctx, Literal, Name, NoMemory, Signature, SortId, SymId, Term, copy, fits, same, weight,
-    well_sorted,
-};
+use am_plan::is_answer;
+use am_term::{Atom, Literal, Name, NoMemory, SortId, Term, copy, same};
 use am_theory::Theory;
 use sqlite_items::Items;
 use std::alloc::Global;
@@ -26,12 +23,8 @@ pub fn direct_answer(
         return Ok(None);
     }
     let answer = right_sides(alloc, diagram.required.as_slice())?;
-    let sorts = input_sorts(alloc, diagram.inputs.as_slice())?;
-    let ctx = Ctx {
-        sig: &theory.sig,
-        ins: sorts.as_slice(),
-    };
-    if !are_servers(&ctx, diagram.outputs.as_slice(), answer.as_slice()) {
+    let fits = is_answer(alloc, theory, diagram, answer.as_slice())?;
+    if !fits {
         return Ok(None);
     }
     let goal = goal_of(alloc, diagram)?;
@@ -103,71 +96,4 @@ fn push_right_side(alloc: Global, terms: &mut Items<Term>, atom: &Atom) -> Resul
         Atom::Eq { right, .. } => terms.push(copy(alloc, right)?)?,
     }
     Ok(())
-}
-
-fn input_sorts(alloc: Global, inputs: &[(Name, SortId)]) -> Result<Items<SortId>, NoMemory>
-    ensures { IfOk result (λ sorts. sorts ≡ sorts_of inputs.now) }
-{
-    let mut sorts = Items::new(alloc);
-    for input in inputs {
-        sorts.push(input.1)?;
-    }
-    Ok(sorts)
-}
-
-// One term for each output.
-fn are_servers(ctx: &Ctx, outputs: &[(Name, SortId)], terms: &[Term]) -> bool
-    ensures { result ≡ are_servers_of ctx.now.sig.now ctx.now.ins.now outputs.now terms.now }
-{
-    match outputs {
-        [] => terms.is_empty(),
-        [output, more @ ..] => match terms {
-            [] => false,
-            [term, behind @ ..] => serves(ctx, output.1, term) && are_servers(ctx, more, behind),
-        },
-    }
-}
-
-// Whether the term's sort fits, a program can compute it, and it isn't large.
-#[tactic(auto, using(crate::proofs::Directness::server_laws))]
-fn serves(ctx: &Ctx, sort: SortId, term: &Term) -> bool
-    ensures { result ≡ is_server ctx.now.sig.now ctx.now.ins.now sort term.now }
-{
-    match well_sorted(ctx, term) {
-        Some(found) => {
-            fits(ctx.sig, found, sort) && is_ready(ctx.sig, term) && weight(term, 400) <= 400
-        }
-        None => false,
-    }
-}
-
-// Whether the term has no variables, and a program can compute each of its symbols.
-#[tactic(auto, using(crate::proofs::Directness::ready_laws))]
-fn is_ready(signature: &Signature, term: &Term) -> bool
-    ensures { result ≡ is_ready_term signature.now term.now }
-{
-    match term {
-        Term::Var { .. } => false,
-        Term::In { .. } => true,
-        Term::App { f, args } => {
-            if !is_computable(signature, *f) {
-                return false;
-            }
-            for arg in args.as_slice() {
-                if !is_ready(signature, arg) {
-                    return false;
-                }
-            }
-            true
-        }
-    }
-}
-
-fn is_computable(signature: &Signature, symbol: SymId) -> bool
-    ensures { result ≡ is_computable_symbol (slice_get signature.now.symbols symbol.0) }
-{
-    match signature.symbols.get(symbol.0 as usize) {
-        Some(symbol) => symbol.computable(),
-        None => false,
-    }
 }

@@ -342,6 +342,12 @@ const LEN: &str = "(diagram LEN)\n(input V vector)\n(output R km)\n(require (= R
 const LEN_UNIT: &str =
     "      SUBROUTINE LEN(V, R)\n      DOUBLE PRECISION V(3)\n      DOUBLE PRECISION R\n      DOUBLE PRECISION VNORM\n      R = VNORM(V)\n      END\n";
 
+const PLACE: &str =
+    "(diagram PLACE)\n(input B body)\n(input E et)\n(output V vector)\n(require (= V (spkezp-pos B E j2000 none sun)))\n";
+
+const PLACE_UNIT: &str =
+    "      SUBROUTINE PLACE(B, E, V)\n      INTEGER B\n      DOUBLE PRECISION E\n      DOUBLE PRECISION V(3)\n      DOUBLE PRECISION T00001\n      CALL SPKEZP(B, E, 'J2000', 'NONE', 10, V, T00001)\n      END\n";
+
 #[test]
 fn makes_units_over_the_example(rt: HostRuntime) -> Result<(), Fail> {
     let mut theory = String::new(rt.alloc());
@@ -351,9 +357,103 @@ fn makes_units_over_the_example(rt: HostRuntime) -> Result<(), Fail> {
         (WHICH, WHICH_UNIT),
         (LONLAT, LONLAT_UNIT),
         (LEN, LEN_UNIT),
+        (PLACE, PLACE_UNIT),
     ] {
         expect_made(&rt, theory.as_str(), diagram, Status::Ok, unit, "")?;
     }
+    Ok(())
+}
+
+const KEEP: &str =
+    "(diagram KEEP)\n(input U utc)\n(output F et)\n(output E et)\n(require (= F (scale (utc2et U))))\n(require (= E (utc2et U)))\n";
+
+const KEEP_UNIT: &str =
+    "      SUBROUTINE KEEP(U, F, E)\n      CHARACTER*(*) U\n      DOUBLE PRECISION F\n      DOUBLE PRECISION E\n      CALL UTC2ET(U, E)\n      CALL SCALE(E, F)\n      END\n";
+
+const ANGLES: &str =
+    "(theory 1)\n(sort angle double)\n(value SINE sine (angle) angle)\n(value COSINE cosine (angle) angle)\n";
+
+const WAVE: &str =
+    "(diagram WAVE)\n(input A angle)\n(output S angle)\n(require (= S (sine (cosine (cosine A)))))\n";
+
+const WAVE_UNIT: &str =
+    "      SUBROUTINE WAVE(A, S)\n      DOUBLE PRECISION A\n      DOUBLE PRECISION S\n      DOUBLE PRECISION T00001\n      DOUBLE PRECISION T00002\n      DOUBLE PRECISION COSINE\n      DOUBLE PRECISION SINE\n      T00001 = COSINE(A)\n      T00002 = COSINE(T00001)\n      S = SINE(T00002)\n      END\n";
+
+const WIDE: &str =
+    "(diagram WIDE)\n(input A01 et)\n(input A02 et)\n(input A03 et)\n(input A04 et)\n(input A05 et)\n(input A06 et)\n(output E01 et)\n(output E02 et)\n(output E03 et)\n(output E04 et)\n(output E05 et)\n(output E06 et)\n(output E07 et)\n(output E08 et)\n(output E09 et)\n(output E10 et)\n(output E11 et)\n(output E12 et)\n(require (= E01 (scale A01)))\n(require (= E02 (scale A02)))\n(require (= E03 (scale A03)))\n(require (= E04 (scale A04)))\n(require (= E05 (scale A05)))\n(require (= E06 (scale A06)))\n(require (= E07 (scale (scale A01))))\n(require (= E08 (scale (scale A02))))\n(require (= E09 (scale (scale A03))))\n(require (= E10 (scale (scale A04))))\n(require (= E11 (scale (scale A05))))\n(require (= E12 (scale (scale A06))))\n";
+
+const WIDE_UNIT: &str =
+    "      SUBROUTINE WIDE(\n     . A01,\n     . A02,\n     . A03,\n     . A04,\n     . A05,\n     . A06,\n     . E01,\n     . E02,\n     . E03,\n     . E04,\n     . E05,\n     . E06,\n     . E07,\n     . E08,\n     . E09,\n     . E10,\n     . E11,\n     . E12)\n      DOUBLE PRECISION A01\n      DOUBLE PRECISION A02\n      DOUBLE PRECISION A03\n      DOUBLE PRECISION A04\n      DOUBLE PRECISION A05\n      DOUBLE PRECISION A06\n      DOUBLE PRECISION E01\n      DOUBLE PRECISION E02\n      DOUBLE PRECISION E03\n      DOUBLE PRECISION E04\n      DOUBLE PRECISION E05\n      DOUBLE PRECISION E06\n      DOUBLE PRECISION E07\n      DOUBLE PRECISION E08\n      DOUBLE PRECISION E09\n      DOUBLE PRECISION E10\n      DOUBLE PRECISION E11\n      DOUBLE PRECISION E12\n      CALL SCALE(A01, E01)\n      CALL SCALE(A02, E02)\n      CALL SCALE(A03, E03)\n      CALL SCALE(A04, E04)\n      CALL SCALE(A05, E05)\n      CALL SCALE(A06, E06)\n      CALL SCALE(E01, E07)\n      CALL SCALE(E02, E08)\n      CALL SCALE(E03, E09)\n      CALL SCALE(E04, E10)\n      CALL SCALE(E05, E11)\n      CALL SCALE(E06, E12)\n      END\n";
+
+const SPREAD: &str =
+    "(theory 1)\n(sort et double)\n(routine SPREAD (et et et et et et) (s01 et) (s02 et) (s03 et) (s04 et) (s05 et) (s06 et) (s07 et) (s08 et) (s09 et) (s10 et) (s11 et) (s12 et))\n";
+
+const LAST: &str =
+    "(diagram LAST)\n(input A et)\n(output E et)\n(require (= E (s12 A A A A A A)))\n";
+
+const LAST_UNIT: &str =
+    "      SUBROUTINE LAST(A, E)\n      DOUBLE PRECISION A\n      DOUBLE PRECISION E\n      DOUBLE PRECISION T00001\n      DOUBLE PRECISION T00002\n      DOUBLE PRECISION T00003\n      DOUBLE PRECISION T00004\n      DOUBLE PRECISION T00005\n      DOUBLE PRECISION T00006\n      DOUBLE PRECISION T00007\n      DOUBLE PRECISION T00008\n      DOUBLE PRECISION T00009\n      DOUBLE PRECISION T00010\n      DOUBLE PRECISION T00011\n      CALL SPREAD(\n     . A,\n     . A,\n     . A,\n     . A,\n     . A,\n     . A,\n     . T00001,\n     . T00002,\n     . T00003,\n     . T00004,\n     . T00005,\n     . T00006,\n     . T00007,\n     . T00008,\n     . T00009,\n     . T00010,\n     . T00011,\n     . E)\n      END\n";
+
+/// An output keeps its name as an argument of a later call, functions are declared in the order of their
+/// first use, and long lists stand on lines of their own.
+#[test]
+fn makes_units_of_many_names(rt: HostRuntime) -> Result<(), Fail> {
+    for (theory, diagram, unit) in [
+        (TWO_ROUTINES, KEEP, KEEP_UNIT),
+        (ANGLES, WAVE, WAVE_UNIT),
+        (TWO_ROUTINES, WIDE, WIDE_UNIT),
+        (SPREAD, LAST, LAST_UNIT),
+    ] {
+        expect_made(&rt, theory, diagram, Status::Ok, unit, "")?;
+    }
+    Ok(())
+}
+
+/// That an output is the input scaled so many times.
+fn push_scaled(text: &mut String, output: &str, times: u32) -> Result<(), Fail> {
+    text.push_str("(require (= ")?;
+    text.push_str(output)?;
+    text.push(' ')?;
+    for _ in 0..times {
+        text.push_str("(scale ")?;
+    }
+    text.push('A')?;
+    for _ in 0..times {
+        text.push(')')?;
+    }
+    text.push_str("))\n")?;
+    Ok(())
+}
+
+/// Four outputs, each the input scaled so many times; a requirement weighs 3 more than that.
+fn scaled(alloc: Global, times: [u32; 4]) -> Result<String, Fail> {
+    let mut text = String::from_str(
+        alloc,
+        "(diagram HEAVY)\n(input A et)\n(output E et)\n(output F et)\n(output G et)\n(output H et)\n",
+    )?;
+    push_scaled(&mut text, "E", times[0])?;
+    push_scaled(&mut text, "F", times[1])?;
+    push_scaled(&mut text, "G", times[2])?;
+    push_scaled(&mut text, "H", times[3])?;
+    Ok(text)
+}
+
+/// A goal of weight 200 is built, and a heavier one is not.
+#[test]
+fn weighs_the_goal(rt: HostRuntime) -> Result<(), Fail> {
+    let words = ["make", "t", "d"];
+    let diagram = scaled(rt.alloc(), [47, 47, 47, 47])?;
+    let outcome = made(rt.alloc(), &words, TWO_ROUTINES, diagram.as_str(), None)?;
+    assert!(rt; outcome.status == Status::Ok);
+    let diagram = scaled(rt.alloc(), [47, 47, 47, 48])?;
+    expect_made(
+        &rt,
+        TWO_ROUTINES,
+        diagram.as_str(),
+        Status::NotBuilt,
+        "",
+        NO_DIAGRAM,
+    )?;
     Ok(())
 }
 

@@ -1,4 +1,4 @@
-use Rattle.std.proofs.Common.{◌≡◌, ◌∙◌, Bool, false, arith}
+use Rattle.std.proofs.Common.{◌≡◌, ◌∙◌, false, arith}
 use Rattle.std.proofs.lemmas.Grind.{common_steps}
 use Rattle.am_term.specs.NameLists.{is_among}
 use Rattle.am_theory.proofs.Distinct.{distinct-start, distinct-on}

@@ -1,0 +1,39 @@
+-- Which faults a declaration of a symbol may have in other surroundings.
+use Rattle.std.proofs.Common.{◌≡◌, Bool, false, List, refl}
+use Rattle.am_syntax.specs.declared.scope.Flaw.TheVariants.{BadSort, BadArity, Unbound}
+use Rattle.am_syntax.specs.declared.written.WrittenFormula.{WrittenFormula}
+use Rattle.am_syntax.specs.Flaws.{formula_has, has_quantifier}
+use Rattle.am_theory.specs.declared.declaration.Typed.{Typed}
+use Rattle.am_theory.specs.declared.declaration.Declaration.{Declaration}
+use Rattle.am_theory.specs.declared.declaration.Declaration.TheVariants as decl
+use Rattle.am_theory.specs.Contents.{Contents, axiom_scope}
+use Rattle.am_theory.specs.Faults.{has_unknown_name, is_twice, axiom_has, has_bad_sort, has_bad_arity, has_unbound, quantifies, is_badly_represented, clashes, is_over_limit}
+use Rattle.am_theory.proofs.NoFault.{IsFaultless}
+use Rattle.am_canon.proofs.Swapped.{DeclaresSymbol}
+
+-- what an axiom's formula may have, no symbol has
+untested : (test : Contents → List Typed → WrittenFormula → Bool) (b : Contents) (d : Declaration) → DeclaresSymbol d → axiom_has test b d ≡ false
+untested test b (decl.Sort n r copy) h = absurd h
+untested test b (decl.Function n args r) h = refl
+untested test b (decl.Relation n args) h = refl
+untested test b (decl.Literal n s v) h = refl
+untested test b (decl.Routine n inputs outputs) h = refl
+untested test b (decl.Value f n args r) h = refl
+untested test b (decl.Axiom vs g) h = absurd h
+
+-- a symbol without a fault in some surroundings, and without five kinds of fault in others, has none there
+pub symbol-faultless : (c b : Contents) (d : Declaration) → DeclaresSymbol d → IsFaultless c d → has_unknown_name b d ≡ false → is_twice b d ≡ false → is_badly_represented b d ≡ false → clashes b d ≡ false → is_over_limit b d ≡ false → IsFaultless b d
+unfolding has_bad_sort has_bad_arity has_unbound quantifies
+symbol-faultless c b d h k known new represented apart few = record {
+  known = known;
+  new = new;
+  sorted = untested (λ x vs g. formula_has (axiom_scope x vs) BadSort g) b d h;
+  counted = untested (λ x vs g. formula_has (axiom_scope x vs) BadArity g) b d h;
+  represented = represented;
+  copied = k.copied;
+  named = k.named;
+  apart = apart;
+  bound = untested (λ x vs g. formula_has (axiom_scope x vs) Unbound g) b d h;
+  plain = untested (λ x vs g. has_quantifier g) b d h;
+  few = few;
+}

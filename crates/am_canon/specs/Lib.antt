@@ -1,0 +1,4 @@
+pub mod CanonicalText
+pub mod DeclarationLaws
+pub mod Spellable
+pub mod RoundTrip

@@ -1,0 +1,399 @@
+ghost use Rattle.std.specs.Prelude.{◌≡◌, ◌==◌, ◌++◌, [], ◌∷◌, Some, IfOk, OnOk, map, find, option_copied};
+ghost use Rattle.am_syntax.specs.Scopes.{profile};
+ghost use Rattle.am_theory.specs.Contents.{contents};
+ghost use Rattle.am_canon.specs.CanonicalText.{sort_name, sort_names, result_name, written_rep, written_rep_of, sort_decls, typed_output, is_first, routine_decl, literal_decl, value_decl, symbol_decl, symbol_decls, typed_variable, written_axiom, declarations};
+
+use am_syntax::{Naming, named_formula};
+use am_term::{Name, NoMemory, SortId, SymId, SymKind, Symbol};
+use am_theory::{
+    Axiom, Declaration, FortranFunction, LitValue, LiteralDecl, Rep, Routine, Theory, Typed,
+    WrittenRep,
+};
+use sqlite_items::Items;
+use std::alloc::Global;
+
+/// The declarations of a theory in their canonical order: the sorts, the symbols and the axioms, each
+/// in order, and one for all outputs of a routine.
+#[tactic(auto, unfolding(crate::specs::CanonicalText::declarations))]
+pub fn declarations(alloc: Global, theory: &Theory) -> Result<Items<Declaration>, NoMemory>
+    ensures { IfOk result (λ ds. ds ≡ declarations (contents theory.now)) }
+{
+    let mut all = sort_decls(
+        alloc,
+        theory.sig.sorts.as_slice(),
+        theory.reps.as_slice(),
+        theory.copies.as_slice(),
+    )?;
+    push_symbols(alloc, theory, &mut all)?;
+    push_axioms(alloc, theory, &mut all)?;
+    Ok(all)
+}
+
+#[tactic(auto, using(crate::proofs::DeclarationSteps::sort_steps))]
+fn sort_decls(
+    alloc: Global,
+    names: &[Name],
+    reps: &[Option<Rep>],
+    copies: &[Option<Name>],
+) -> Result<Items<Declaration>, NoMemory>
+    ensures { IfOk result (λ ds. ds ≡ sort_decls names.now reps.now copies.now) }
+{
+    let mut made = Items::new(alloc);
+    let mut names_left = names;
+    let mut reps_left = reps;
+    let mut copies_left = copies;
+    while let [name, later_names @ ..] = names_left {
+        let [rep, later_reps @ ..] = reps_left else {
+            return Ok(made);
+        };
+        let [copy, later_copies @ ..] = copies_left else {
+            return Ok(made);
+        };
+        made.push(sort_decl(alloc, name, *rep, copy)?)?;
+        names_left = later_names;
+        reps_left = later_reps;
+        copies_left = later_copies;
+    }
+    Ok(made)
+}
+
+fn sort_decl(
+    alloc: Global,
+    name: &Name,
+    rep: Option<Rep>,
+    copy: &Option<Name>,
+) -> Result<Declaration, NoMemory>
+    ensures { IfOk result (λ d. d ≡ Declaration.Sort name.now (written_rep_of rep) copy.now) }
+{
+    let name = Name::new(alloc, name.as_str())?;
+    let copy = copy_name(alloc, copy)?;
+    let rep = match rep {
+        Some(rep) => Some(written_rep(rep)),
+        None => None,
+    };
+    Ok(Declaration::Sort { name, rep, copy })
+}
+
+fn copy_name(alloc: Global, name: &Option<Name>) -> Result<Option<Name>, NoMemory>
+    ensures { IfOk result (λ n. n ≡ name.now) }
+{
+    match name {
+        Some(name) => Ok(Some(Name::new(alloc, name.as_str())?)),
+        None => Ok(None),
+    }
+}
+
+fn written_rep(rep: Rep) -> WrittenRep
+    ensures { result ≡ written_rep rep }
+{
+    match rep {
+        Rep::Double => WrittenRep::Double,
+        Rep::Integer => WrittenRep::Integer,
+        Rep::Logical => WrittenRep::Logical,
+        Rep::Char(length) => WrittenRep::Char(i64::from(length)),
+        Rep::DoubleVec(extent) => WrittenRep::DoubleVec(i64::from(extent)),
+        Rep::DoubleMat(rows, columns) => {
+            WrittenRep::DoubleMat(i64::from(rows), i64::from(columns))
+        }
+        Rep::IntegerVec(extent) => WrittenRep::IntegerVec(i64::from(extent)),
+    }
+}
+
+#[tactic(auto, using(crate::proofs::DeclarationSteps::symbol_steps))]
+fn push_symbols(
+    alloc: Global,
+    theory: &Theory,
+    out: &mut Items<Declaration>,
+) -> Result<(), NoMemory>
+    ensures { OnOk result (out.new ≡ out.old ++ symbol_decls (contents theory.now) 0 (contents theory.now).symbols) }
+{
+    for (number, symbol) in theory.sig.symbols.as_slice().iter().enumerate() {
+        push_symbol(alloc, theory, number, symbol, out)?;
+    }
+    Ok(())
+}
+
+// The declaration of a symbol, if it has one of its own.
+fn push_symbol(
+    alloc: Global,
+    theory: &Theory,
+    number: usize,
+    symbol: &Symbol,
+    out: &mut Items<Declaration>,
+) -> Result<(), NoMemory>
+    ensures { OnOk result (out.new ≡ out.old ++ symbol_decl (contents theory.now) number (profile symbol.now) symbol.now.kind) }
+{
+    match symbol.kind {
+        SymKind::Function => out.push(function_decl(alloc, theory, symbol)?)?,
+        SymKind::Relation => out.push(relation_decl(alloc, theory, symbol)?)?,
+        SymKind::Literal => {
+            let literal = literal_of(theory.literals.as_slice(), number);
+            push_literal(alloc, theory, symbol, literal, out)?;
+        }
+        SymKind::Output => {
+            let routine = routine_of(theory.routines.as_slice(), number);
+            push_routine(alloc, theory, routine, out)?;
+        }
+        SymKind::Value => {
+            let function = function_of(theory.functions.as_slice(), number);
+            push_value(alloc, theory, symbol, function, out)?;
+        }
+    }
+    Ok(())
+}
+
+fn push_literal(
+    alloc: Global,
+    theory: &Theory,
+    symbol: &Symbol,
+    literal: Option<&LiteralDecl>,
+    out: &mut Items<Declaration>,
+) -> Result<(), NoMemory>
+    ensures { OnOk result (out.new ≡ out.old ++ literal_decl (contents theory.now) (profile symbol.now) (option_copied literal.entry)) }
+{
+    if let Some(literal) = literal {
+        out.push(literal_decl(alloc, theory, symbol, literal)?)?;
+    }
+    Ok(())
+}
+
+fn push_routine(
+    alloc: Global,
+    theory: &Theory,
+    routine: Option<&Routine>,
+    out: &mut Items<Declaration>,
+) -> Result<(), NoMemory>
+    ensures { OnOk result (out.new ≡ out.old ++ routine_decl (contents theory.now) (option_copied routine.entry)) }
+{
+    if let Some(routine) = routine {
+        out.push(routine_decl(alloc, theory, routine)?)?;
+    }
+    Ok(())
+}
+
+fn push_value(
+    alloc: Global,
+    theory: &Theory,
+    symbol: &Symbol,
+    function: Option<&FortranFunction>,
+    out: &mut Items<Declaration>,
+) -> Result<(), NoMemory>
+    ensures { OnOk result (out.new ≡ out.old ++ value_decl (contents theory.now) (profile symbol.now) (option_copied function.entry)) }
+{
+    if let Some(function) = function {
+        out.push(value_decl(alloc, theory, symbol, function)?)?;
+    }
+    Ok(())
+}
+
+fn function_decl(alloc: Global, theory: &Theory, symbol: &Symbol) -> Result<Declaration, NoMemory>
+    ensures { IfOk result (λ d. d ≡ Declaration.Function symbol.now.name (sort_names (contents theory.now) symbol.now.args) (result_name (contents theory.now) symbol.now.result)) }
+{
+    let name = Name::new(alloc, symbol.name.as_str())?;
+    let args = sort_names(alloc, theory, symbol.args.as_slice())?;
+    let result = result_name(alloc, theory, symbol.result)?;
+    Ok(Declaration::Function { name, args, result })
+}
+
+fn relation_decl(alloc: Global, theory: &Theory, symbol: &Symbol) -> Result<Declaration, NoMemory>
+    ensures { IfOk result (λ d. d ≡ Declaration.Relation symbol.now.name (sort_names (contents theory.now) symbol.now.args)) }
+{
+    let name = Name::new(alloc, symbol.name.as_str())?;
+    let args = sort_names(alloc, theory, symbol.args.as_slice())?;
+    Ok(Declaration::Relation { name, args })
+}
+
+fn literal_decl(
+    alloc: Global,
+    theory: &Theory,
+    symbol: &Symbol,
+    literal: &LiteralDecl,
+) -> Result<Declaration, NoMemory>
+    ensures { IfOk result (λ d. literal_decl (contents theory.now) (profile symbol.now) (Some literal.now) ≡ d ∷ []) }
+{
+    let name = Name::new(alloc, symbol.name.as_str())?;
+    let sort = result_name(alloc, theory, symbol.result)?;
+    let value = copy_value(alloc, &literal.value)?;
+    Ok(Declaration::Literal { name, sort, value })
+}
+
+fn routine_decl(alloc: Global, theory: &Theory, routine: &Routine) -> Result<Declaration, NoMemory>
+    ensures { IfOk result (λ d. routine_decl (contents theory.now) (Some routine.now) ≡ d ∷ []) }
+{
+    let name = Name::new(alloc, routine.name.as_str())?;
+    let inputs = sort_names(alloc, theory, routine.inputs.as_slice())?;
+    let outputs = typed_outputs(alloc, theory, routine.outputs.as_slice())?;
+    Ok(Declaration::Routine {
+        name,
+        inputs,
+        outputs,
+    })
+}
+
+fn value_decl(
+    alloc: Global,
+    theory: &Theory,
+    symbol: &Symbol,
+    function: &FortranFunction,
+) -> Result<Declaration, NoMemory>
+    ensures { IfOk result (λ d. value_decl (contents theory.now) (profile symbol.now) (Some function.now) ≡ d ∷ []) }
+{
+    let function = Name::new(alloc, function.name.as_str())?;
+    let name = Name::new(alloc, symbol.name.as_str())?;
+    let args = sort_names(alloc, theory, symbol.args.as_slice())?;
+    let result = result_name(alloc, theory, symbol.result)?;
+    Ok(Declaration::Value {
+        function,
+        name,
+        args,
+        result,
+    })
+}
+
+// The literal of this symbol.
+fn literal_of(literals: &[LiteralDecl], number: usize) -> Option<&LiteralDecl>
+    ensures { option_copied result ≡ find (λ l. l.symbol.0 == number) literals.now }
+{
+    literals
+        .iter()
+        .find(|literal| literal.symbol.0 as usize == number)
+}
+
+// The routine whose first output is this symbol.
+fn routine_of(routines: &[Routine], number: usize) -> Option<&Routine>
+    ensures { option_copied result ≡ find (λ r. is_first number r.outputs) routines.now }
+{
+    routines
+        .iter()
+        .find(|routine| is_first(number, routine.outputs.as_slice()))
+}
+
+fn is_first(number: usize, outputs: &[SymId]) -> bool
+    ensures { result ≡ is_first number outputs.now }
+{
+    match outputs {
+        [] => false,
+        [first, ..] => first.0 as usize == number,
+    }
+}
+
+// The listed function of this symbol.
+fn function_of(functions: &[FortranFunction], number: usize) -> Option<&FortranFunction>
+    ensures { option_copied result ≡ find (λ f. f.symbol.0 == number) functions.now }
+{
+    functions
+        .iter()
+        .find(|function| function.symbol.0 as usize == number)
+}
+
+fn copy_value(alloc: Global, value: &LitValue) -> Result<LitValue, NoMemory>
+    ensures { IfOk result (λ v. v ≡ value.now) }
+{
+    match value {
+        LitValue::Int(number) => Ok(LitValue::Int(*number)),
+        LitValue::Text(text) => Ok(LitValue::Text(Name::new(alloc, text.as_str())?)),
+    }
+}
+
+#[tactic(auto, using(crate::proofs::DeclarationSteps::name_steps))]
+fn sort_name(alloc: Global, theory: &Theory, sort: SortId) -> Result<Name, NoMemory>
+    ensures { IfOk result (λ n. n ≡ sort_name (contents theory.now) sort) }
+{
+    match sqlite_items::at(theory.sig.sorts.as_slice(), sort.0 as usize) {
+        Some(name) => Name::new(alloc, name.as_str()),
+        None => Ok(Name::empty(alloc)),
+    }
+}
+
+#[tactic(auto, using(crate::proofs::FormSteps::map_laws))]
+fn sort_names(alloc: Global, theory: &Theory, sorts: &[SortId]) -> Result<Items<Name>, NoMemory>
+    ensures { IfOk result (λ ns. ns ≡ sort_names (contents theory.now) sorts.now) }
+{
+    let mut names = Items::new(alloc);
+    for sort in sorts {
+        names.push(sort_name(alloc, theory, *sort)?)?;
+    }
+    Ok(names)
+}
+
+fn result_name(alloc: Global, theory: &Theory, sort: Option<SortId>) -> Result<Name, NoMemory>
+    ensures { IfOk result (λ n. n ≡ result_name (contents theory.now) sort) }
+{
+    match sort {
+        Some(sort) => sort_name(alloc, theory, sort),
+        None => Ok(Name::empty(alloc)),
+    }
+}
+
+#[tactic(auto, using(crate::proofs::FormSteps::map_laws))]
+fn typed_outputs(
+    alloc: Global,
+    theory: &Theory,
+    outputs: &[SymId],
+) -> Result<Items<Typed>, NoMemory>
+    ensures { IfOk result (λ ts. ts ≡ map (typed_output (contents theory.now)) outputs.now) }
+{
+    let mut all = Items::new(alloc);
+    for output in outputs {
+        all.push(typed_output(alloc, theory, *output)?)?;
+    }
+    Ok(all)
+}
+
+#[tactic(auto, using(crate::proofs::DeclarationSteps::name_steps))]
+fn typed_output(alloc: Global, theory: &Theory, output: SymId) -> Result<Typed, NoMemory>
+    ensures { IfOk result (λ t. t ≡ typed_output (contents theory.now) output) }
+{
+    match sqlite_items::at(theory.sig.symbols.as_slice(), output.0 as usize) {
+        Some(symbol) => {
+            let name = Name::new(alloc, symbol.name.as_str())?;
+            let sort = result_name(alloc, theory, symbol.result)?;
+            Ok(Typed { name, sort })
+        }
+        None => Ok(Typed {
+            name: Name::empty(alloc),
+            sort: Name::empty(alloc),
+        }),
+    }
+}
+
+#[tactic(auto, using(crate::proofs::FormSteps::map_laws))]
+fn push_axioms(alloc: Global, theory: &Theory, out: &mut Items<Declaration>) -> Result<(), NoMemory>
+    ensures { OnOk result (out.new ≡ out.old ++ map (written_axiom (contents theory.now)) theory.now.axioms) }
+{
+    for axiom in theory.axioms.as_slice() {
+        out.push(written_axiom(alloc, theory, axiom)?)?;
+    }
+    Ok(())
+}
+
+#[tactic(auto, using(crate::proofs::DeclarationSteps::naming_steps))]
+fn written_axiom(alloc: Global, theory: &Theory, stated: &Axiom) -> Result<Declaration, NoMemory>
+    ensures { IfOk result (λ d. d ≡ written_axiom (contents theory.now) stated.now) }
+{
+    let naming = Naming {
+        variables: stated.vars.as_slice(),
+        inputs: &[],
+        symbols: theory.sig.symbols.as_slice(),
+    };
+    let formula = named_formula(alloc, &naming, &stated.formula)?;
+    let variables = typed_variables(alloc, theory, stated.vars.as_slice())?;
+    Ok(Declaration::Axiom { variables, formula })
+}
+
+#[tactic(auto, using(crate::proofs::FormSteps::map_laws))]
+fn typed_variables(
+    alloc: Global,
+    theory: &Theory,
+    variables: &[(Name, SortId)],
+) -> Result<Items<Typed>, NoMemory>
+    ensures { IfOk result (λ ts. ts ≡ map (typed_variable (contents theory.now)) variables.now) }
+{
+    let mut all = Items::new(alloc);
+    for variable in variables {
+        let name = Name::new(alloc, variable.0.as_str())?;
+        let sort = sort_name(alloc, theory, variable.1)?;
+        all.push(Typed { name, sort })?;
+    }
+    Ok(all)
+}

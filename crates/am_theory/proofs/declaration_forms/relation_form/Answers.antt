@@ -1,5 +1,0 @@
-use Rattle.std.proofs.Common.{refl}
-use Rattle.am_theory.proofs.declaration_forms.relation_form.Goals as goal
-
-pub returns : goal.returns
-returns c = rw (c.list_form.ensures, c.in_ok-push.ensures.ok, c.in_ok-members.ensures, c.in_ok-names_form.ensures) refl

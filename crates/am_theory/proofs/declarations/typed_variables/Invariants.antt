@@ -1,8 +1,0 @@
-use Rattle.std.proofs.Common.{◌≡◌, map, take}
-use Rattle.am_theory.specs.Contents.{contents}
-use Rattle.am_theory.specs.CanonicalText.{typed_variable}
-use Rattle.am_theory.proofs.declarations.typed_variables.Given as goal
-
--- the variables so far, with their sorts
-abbrev pub invariant-loop-variable : goal.invariant-loop-variable
-invariant-loop-variable l = l.all ≡ map (typed_variable (contents l.theory)) (take l.variable-index l.variables)

@@ -1,5 +1,0 @@
-use Rattle.am_theory.proofs.DeclarationRead.{declaration_no_higher}
-use Rattle.am_theory.proofs.laws_of_declarations.read_declarations_are_no_higher.Goals as goal
-
-pub returns : goal.returns
-returns c = declaration_no_higher

@@ -1,5 +1,0 @@
-use Rattle.std.proofs.Common.{length}
-use Rattle.am_top.proofs.direct.+are_servers.Given as goal
-
-abbrev pub decreases-are_servers : goal.decreases-are_servers
-decreases-are_servers l = length l.outputs.now
