@@ -1,6 +1,7 @@
 #!/bin/bash
-# Outside the gate: makes a theory file of 4,096 symbols, 2,000 axioms and a megabyte, and a diagram whose
-# twelve terms weigh as much as a goal may, and shows how long the built program takes over them.
+# Outside the gate: makes a theory file of 4,096 symbols, 2,000 axioms and a megabyte, files of one axiom far
+# over a limit or with one literal very often, and a diagram whose twelve terms weigh as much as a goal may,
+# and shows how long the built program takes over them.
 # Run it from anywhere; it takes the program that `rt run` built in crates/amphion.
 cd "$(dirname "$0")/.." || exit 1
 program=crates/amphion/out/amphion
@@ -29,6 +30,38 @@ awk -v bytes="$bytes" 'BEGIN { left = 1048576 - bytes; printf ";"; for (i = 2; i
 echo "theory: $(wc -c < "$folder/theory") bytes, $(grep -c '^(axiom' "$folder/theory") axioms"
 time "$program" theory "$folder/theory" > "$folder/canonical"
 echo "canonical text: $(wc -c < "$folder/canonical") bytes"
+
+# One axiom of nearly a megabyte: with 36,000 variables, with 50,000 different literals in one clause, and
+# with one literal 200,000 times. The first two are over a limit, the last one is read.
+awk 'BEGIN {
+    print "(theory 1)"
+    print "(sort q double)"
+    printf "(axiom (all ("
+    for (i = 1; i <= 36000; i++) printf "(v%d q)", i
+    printf ") (and"
+    for (i = 1; i < 36000; i++) printf " (= v%d v%d)", i, i + 1
+    print ")))"
+}' > "$folder/variables"
+awk 'BEGIN {
+    print "(theory 1)"
+    print "(sort q double)"
+    print "(relation p (q q))"
+    for (i = 1; i <= 1000; i++) printf "(function c%d () q)\n", i
+    printf "(axiom (or"
+    for (i = 1; i <= 50000; i++) printf " (p c%d c%d)", i % 1000 + 1, int(i / 1000) + 1
+    print "))"
+}' > "$folder/literals"
+awk 'BEGIN {
+    print "(theory 1)"
+    print "(relation p ())"
+    printf "(axiom (or"
+    for (i = 1; i <= 200000; i++) printf " p"
+    print "))"
+}' > "$folder/repeated"
+for name in variables literals repeated; do
+    echo "$name: $(wc -c < "$folder/$name") bytes"
+    time "$program" theory "$folder/$name" > "$folder/canonical"
+done
 
 # The same routines without axioms, and twelve outputs: each term is a tree of routines over the inputs.
 grep -v '^(axiom\|^;' "$folder/axioms" > "$folder/plain"
