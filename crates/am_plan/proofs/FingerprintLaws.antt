@@ -1,8 +1,9 @@
 -- What is one has one fingerprint, so it stands at the first place of its fingerprint or behind it.
-use Rattle.std.proofs.Common.{◌≡◌, ◌∙◌, ◌==◌, ◌+◌, ◌||◌, ℕ, suc, Bool, true, false, refl, sym, ap, arith, cond, List, [], ◌∷◌, ◌++◌, Some, None, Result, Ok, Err, MatchResult, is_err, length, drop, if◌then◌else◌}
+use Rattle.std.proofs.Common.{◌≡◌, ◌∙◌, ◌==◌, ◌+◌, ◌||◌, ℕ, suc, Bool, true, false, refl, sym, ap, arith, cond, List, [], ◌∷◌, ◌++◌, Option, Some, None, Result, Ok, Err, MatchResult, is_err, length, drop, if◌then◌else◌}
 use Rattle.std.specs.Option.{option_or}
 use Rattle.std.proofs.lemmas.Grind.{common_steps}
 use Rattle.std.proofs.lemmas.Bool.Decides.{nat_tests}
+use Rattle.am_term.specs.declared.id.SortId.{SortId}
 use Rattle.am_term.specs.declared.term.Term.{Term}
 use Rattle.am_term.specs.Same.{same_term}
 use Rattle.am_term.proofs.Alike.{same_term-sound}
@@ -10,12 +11,15 @@ use Rattle.am_term.proofs.Tests.{fails}
 use Rattle.am_clause.specs.Distinct.{among}
 use Rattle.am_plan.specs.declared.call.PlannedCall.{PlannedCall}
 use Rattle.am_plan.specs.Calls.{same_call}
-use Rattle.am_plan.specs.Names.{Named, name_of}
+use Rattle.am_plan.specs.Names.{Named, name_of, output_for}
 use Rattle.am_plan.specs.Fingerprints.{fingerprint, call_fingerprint, place_from}
 use Rattle.am_plan.proofs.Asking.{same_call-sound}
 
 number-same : (m n : ℕ) → m ≡ n → (m == n) ≡ true
 number-same m n e = grind (arith, nat_tests)
+
+abbrev no_name : Option (List ℕ)
+no_name = None
 
 never : (b : Bool) → b ≡ true → b ≡ false → ⊥
 never true e f = cc
@@ -85,6 +89,39 @@ named-from-place k x (e ∷ es) i h = by_test (named-from-place (k + 1) x es i) 
 pub named-behind : (x : Term) (es : List Named) (i : ℕ) → place_from entry_fingerprint (fingerprint x) 0 es ≡ Some i → name_of (drop i es) x ≡ name_of es x
 named-behind x es i h = let r = named-from-place 0 x es i h in ap (λ j. name_of (drop j es) x) (let s : i ≡ r.0 = omega arith in s) ∙ r.2
 
+-- ---- answers
+other-answer : (x a : Term) → (fingerprint x == fingerprint a) ≡ false → same_term x a ≡ false
+other-answer x a h = fails (same_term x a) (λ s. never (fingerprint x == fingerprint a) (number-same (fingerprint x) (fingerprint a) (ap fingerprint (same_term-sound x a s))) h)
+
+abbrev Outputs : Type 0
+Outputs = List (List ℕ × SortId)
+
+pub unanswered : (k : ℕ) (x : Term) (os : Outputs) (as_ : List Term) → place_from fingerprint (fingerprint x) k as_ ≡ None → output_for x os as_ ≡ no_name
+unanswered k x [] as_ h = refl
+unanswered k x (o ∷ os) [] h = refl
+unanswered k x (o ∷ os) (a ∷ as_) h = by_test (unanswered (k + 1) x os as_) (fingerprint x == fingerprint a) refl h
+  where
+    by_test : (place_from fingerprint (fingerprint x) (k + 1) as_ ≡ None → output_for x os as_ ≡ no_name) → (b : Bool) → (fingerprint x == fingerprint a) ≡ b → cond b (Some k) (place_from fingerprint (fingerprint x) (k + 1) as_) ≡ None → output_for x (o ∷ os) (a ∷ as_) ≡ no_name
+    by_test later true is h = absurd cc
+    by_test later false is h = ap (λ b. if b then Some o.0 else output_for x os as_) (other-answer x a is) ∙ later h
+
+answered-from : (k : ℕ) (x : Term) (os : Outputs) (as_ : List Term) (i : ℕ) → place_from fingerprint (fingerprint x) k as_ ≡ Some i → (j : ℕ) × (i ≡ k + j) × (output_for x (drop j os) (drop j as_) ≡ output_for x os as_)
+answered-from k x os [] i h = absurd cc
+answered-from k x os (a ∷ as_) i h = by_test (λ ps. answered-from (k + 1) x ps as_ i) (fingerprint x == fingerprint a) refl h
+  where
+    by_outputs : (os : Outputs) (r : (ps : Outputs) → (j : ℕ) × (i ≡ k + 1 + j) × (output_for x (drop j ps) (drop j as_) ≡ output_for x ps as_)) → (fingerprint x == fingerprint a) ≡ false → (j : ℕ) × (i ≡ k + j) × (output_for x (drop j os) (drop j (a ∷ as_)) ≡ output_for x os (a ∷ as_))
+    by_outputs [] r is = let q = r [] in (suc q.0, omega arith, refl)
+    by_outputs (o ∷ os) r is = let q = r os in (suc q.0, omega arith, q.2 ∙ sym (ap (λ b. if b then Some o.0 else output_for x os as_) (other-answer x a is)))
+
+    by_test : ((ps : Outputs) → place_from fingerprint (fingerprint x) (k + 1) as_ ≡ Some i → (j : ℕ) × (i ≡ k + 1 + j) × (output_for x (drop j ps) (drop j as_) ≡ output_for x ps as_)) → (b : Bool) → (fingerprint x == fingerprint a) ≡ b → cond b (Some k) (place_from fingerprint (fingerprint x) (k + 1) as_) ≡ Some i → (j : ℕ) × (i ≡ k + j) × (output_for x (drop j os) (drop j (a ∷ as_)) ≡ output_for x os (a ∷ as_))
+    by_test later true is h = let s : k ≡ i = cc in (0, omega arith, refl)
+    by_test later false is h = by_outputs os (λ ps. later ps h) is
+
+pub answered-behind : (x : Term) (os : Outputs) (as_ : List Term) (i : ℕ) → place_from fingerprint (fingerprint x) 0 as_ ≡ Some i → output_for x (drop i os) (drop i as_) ≡ output_for x os as_
+answered-behind x os as_ i h = let r = answered-from 0 x os as_ i h in ap (λ j. output_for x (drop j os) (drop j as_)) (let s : i ≡ r.0 = omega arith in s) ∙ r.2
+
 pub ruleset seeing = (common_steps, unseen, seen-behind)
 
 pub ruleset naming = (common_steps, unnamed, named-behind)
+
+pub ruleset answering = (common_steps, unanswered, answered-behind)

@@ -7,7 +7,7 @@ ghost use Rattle.am_plan.specs.Calls.{listed};
 
 use crate::call::{Callee, PlannedCall};
 use crate::lookups::{dummy_type, local_type, rep_of_head, rep_of_sort};
-use crate::naming::output_for;
+use crate::naming::{Wanted, output_for, places_of};
 use am_fortran::Decl;
 use am_term::{Name, NoMemory, SortId, Term};
 use am_theory::{FortranFunction, Rep, Theory};
@@ -51,9 +51,15 @@ pub fn push_locals(
 ) -> Result<(), NoMemory>
     ensures { OnOk result (made.new ≡ made.old ++ map (local_declaration theory.now) (locals_in outputs.now answer.now names.now)) }
 {
+    let places = places_of(alloc, answer)?;
+    let wanted = Wanted {
+        outputs,
+        answer,
+        places: &places,
+    };
     let mut rest = names;
     while let [entry, behind @ ..] = rest {
-        if output_for(&entry.1, outputs, answer).is_none() {
+        if output_for(&entry.1, &wanted).is_none() {
             made.push(local_decl(alloc, theory, &entry.0, &entry.1)?)?;
         }
         rest = behind;

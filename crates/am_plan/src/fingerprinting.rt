@@ -1,9 +1,10 @@
 ghost use Rattle.std.specs.Prelude.{◌≡◌, length, map};
+ghost use Rattle.am_term.specs.declared.term.Term.TheVariants.{App};
 ghost use Rattle.am_plan.specs.Calls.{call_with};
 ghost use Rattle.am_plan.specs.Fingerprints.{mix as mixed, fingerprint as fingerprint_of_term, fingerprint_with, call_fingerprint as fingerprint_of_call};
 
 use crate::call::Callee;
-use am_term::Term;
+use am_term::{SymId, Term};
 
 const MULTIPLIER: u64 = 11_400_714_819_323_198_485;
 
@@ -39,6 +40,14 @@ fn fingerprint_over(kind: u64, number: u64, terms: &[Term]) -> u64
         fingerprint = mix(fingerprint, fingerprint_of(term));
     }
     fingerprint
+}
+
+/// The fingerprint of a symbol at terms. Takes no memory.
+#[tactic(auto, using(crate::proofs::Fingerprinted::fingerprinting))]
+pub fn fingerprint_at(f: SymId, args: &[Term]) -> u64
+    ensures { result ≡ fingerprint_of_term (App f args.now) }
+{
+    fingerprint_over(3, f.0 as u64, args)
 }
 
 /// The fingerprint of the call at these terms. Takes no memory.

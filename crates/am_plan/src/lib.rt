@@ -26,7 +26,7 @@ pub use call::{Callee, PlannedCall};
 pub use calling::{callee_of, calls};
 pub use laws::{law_of_answer, law_of_calls, law_of_need};
 pub use named_terms::{NamedTerms, indexed, name_of};
-pub use naming::{local_name, made, made_by, named, output_for};
+pub use naming::{Wanted, local_name, named, output_for, places_of};
 pub use planning::plan;
 
 #[cfg(test)]

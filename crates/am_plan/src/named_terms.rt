@@ -1,11 +1,13 @@
 ghost use Rattle.std.specs.Prelude.{◌≡◌, ℕ, List, IfOk, nat_eq};
 ghost use Rattle.std.specs.HashMap.{get};
+ghost use Rattle.am_term.specs.declared.term.Term.TheVariants.{App};
+ghost use Rattle.am_term.specs.Same.{same_term};
 ghost use Rattle.am_plan.specs.Names.{Named, name_of as name_under};
 ghost use Rattle.am_plan.specs.Fingerprints.{fingerprint as fingerprint_of_term, place_from};
 
-use crate::fingerprinting::fingerprint_of;
+use crate::fingerprinting::{fingerprint_at, fingerprint_of};
 use crate::places::{behind, note};
-use am_term::{Name, NoMemory, Term, same};
+use am_term::{Name, NoMemory, SymId, Term, same, same_terms};
 use sqlite_items::Items;
 use std::alloc::Global;
 use std::collections::HashMap;
@@ -72,4 +74,41 @@ fn listed_name<'a>(entries: &'a [(Name, Term)], term: &Term) -> &'a str
         rest = behind;
     }
     ""
+}
+
+/// The name of a symbol at terms; the empty text where no call makes it. Takes no memory.
+#[tactic(auto, using(crate::proofs::FingerprintLaws::naming))]
+pub fn name_at<'a>(names: &'a NamedTerms, f: SymId, args: &[Term]) -> &'a str
+    ensures { result.now ≡ name_under names.now.entries (App f args.now) }
+{
+    match first_place(names, fingerprint_at(f, args)) {
+        None => "",
+        Some(place) => listed_at(behind(names.entries.as_slice(), place), f, args),
+    }
+}
+
+// The name of a symbol at terms, by comparing it with each.
+fn listed_at<'a>(entries: &'a [(Name, Term)], f: SymId, args: &[Term]) -> &'a str
+    ensures { result.now ≡ name_under entries.now (App f args.now) }
+{
+    let mut rest = entries;
+    while let [entry, behind @ ..] = rest {
+        if is_at(&entry.1, f, args) {
+            return entry.0.as_str();
+        }
+        rest = behind;
+    }
+    ""
+}
+
+// Whether the term is the symbol at the terms.
+#[tactic(auto, using(am_term::proofs::Walks::comparisons))]
+fn is_at(term: &Term, f: SymId, args: &[Term]) -> bool
+    ensures { result ≡ same_term term.now (App f args.now) }
+{
+    match term {
+        Term::Var { .. } => false,
+        Term::In { .. } => false,
+        Term::App { f: g, args: terms } => g.0 == f.0 && same_terms(terms.as_slice(), args),
+    }
 }

@@ -1,89 +1,106 @@
-ghost use Rattle.std.specs.Prelude.{◌≡◌, ◌∷◌, ◌<◌, ◌≤◌, map, IfOk, option_copied, []};
+ghost use Rattle.std.specs.Prelude.{◌≡◌, ◌++◌, ◌<◌, ◌≤◌, ℕ, List, map, IfOk, nat_eq, option_copied};
+ghost use Rattle.std.specs.HashMap.{get};
 ghost use Rattle.std.specs.List.{flat_map};
 ghost use Rattle.am_term.specs.declared.id.SymId.{SymId};
+ghost use Rattle.am_term.specs.declared.term.Term.{Term};
 ghost use Rattle.am_term.specs.declared.term.Term.TheVariants.{App};
 ghost use Rattle.am_plan.specs.Calls.{made_by as terms_of_call};
-ghost use Rattle.am_plan.specs.Names.{digit as digit_of, local_name as name_of_local, output_for as name_of_output, named_by, named_from};
+ghost use Rattle.am_plan.specs.Fingerprints.{fingerprint as fingerprint_of_term, place_from};
+ghost use Rattle.am_plan.specs.Names.{digit as digit_of, local_name as name_of_local, output_for as name_of_output, named_by, named_from, next_local as local_after};
 
 use crate::call::{Callee, PlannedCall};
-use am_term::{Name, NoMemory, SortId, SymId, Term, copies, copy, same};
+use crate::fingerprinting::fingerprint_of;
+use crate::places::{behind, note};
+use am_term::{Name, NoMemory, SortId, SymId, Term, copies, same};
 use am_theory::Theory;
 use sqlite_items::Items;
 use std::alloc::Global;
+use std::collections::HashMap;
 
-/// The terms that a call makes: a routine's outputs, or the value of a function, at the inputs' terms.
-pub fn made_by(alloc: Global, theory: &Theory, call: &PlannedCall) -> Result<Items<Term>, NoMemory>
-    ensures { IfOk result (λ ts. ts ≡ terms_of_call theory.now call.now) }
-{
-    match call.callee {
-        Callee::Routine(k) => match theory.routines.get(k) {
-            Some(routine) => outputs_at(alloc, call.args.as_slice(), routine.outputs.as_slice()),
-            None => Ok(Items::new(alloc)),
-        },
-        Callee::Function(k) => match theory.functions.get(k) {
-            Some(function) => value_at(alloc, call.args.as_slice(), function.symbol),
-            None => Ok(Items::new(alloc)),
-        },
-    }
-}
-
-fn outputs_at(alloc: Global, args: &[Term], outputs: &[SymId]) -> Result<Items<Term>, NoMemory>
-    ensures { IfOk result (λ ts. ts ≡ map (λ (f : SymId). App f args.now) outputs.now) }
-{
-    let mut made = Items::new(alloc);
-    let mut rest = outputs;
-    while let [f, behind @ ..] = rest {
-        let args = copies(alloc, args)?;
-        made.push(Term::App { f: *f, args })?;
-        rest = behind;
-    }
-    Ok(made)
-}
-
-fn value_at(alloc: Global, args: &[Term], f: SymId) -> Result<Items<Term>, NoMemory>
-    ensures { IfOk result (λ ts. ts ≡ App f args.now ∷ []) }
-{
-    let mut made = Items::new(alloc);
-    let args = copies(alloc, args)?;
-    made.push(Term::App { f, args })?;
-    Ok(made)
-}
-
-/// The terms that all calls make, in order.
-pub fn made(alloc: Global, theory: &Theory, calls: &[PlannedCall]) -> Result<Items<Term>, NoMemory>
-    ensures { IfOk result (λ ts. ts ≡ flat_map (terms_of_call theory.now) calls.now) }
-{
-    let mut made = Items::new(alloc);
-    let mut rest = calls;
-    while let [call, behind @ ..] = rest {
-        made.append(made_by(alloc, theory, call)?)?;
-        rest = behind;
-    }
-    Ok(made)
-}
-
-/// Each term with the name of the first output whose answer it is, else with the next local's, which
-/// are numbered from 1.
+/// Each term that the calls make, with the name of the first output whose answer it is, else with the next
+/// local's, which are numbered from 1; no memory too where a number would exceed 64 bits.
 pub fn named(
     alloc: Global,
+    theory: &Theory,
     outputs: &[(Name, SortId)],
     answer: &[Term],
-    made: &[Term],
+    calls: &[PlannedCall],
 ) -> Result<Items<(Name, Term)>, NoMemory>
-    ensures { IfOk result (λ ns. ns ≡ named_from 1 outputs.now answer.now made.now) }
+    ensures { IfOk result (λ ns. ns ≡ named_from 1 outputs.now answer.now (flat_map (terms_of_call theory.now) calls.now)) }
 {
+    let places = places_of(alloc, answer)?;
+    let wanted = Wanted {
+        outputs,
+        answer,
+        places: &places,
+    };
     let mut names = Items::new(alloc);
     let mut k: usize = 1;
-    let mut rest = made;
-    while let [term, behind @ ..] = rest {
-        let output = output_for(term, outputs, answer);
-        names.push(name_by(alloc, output, k, term)?)?;
-        if output.is_none() {
-            k += 1;
-        }
+    let mut rest = calls;
+    while let [call, behind @ ..] = rest {
+        k = push_made(alloc, theory, &wanted, call, k, &mut names)?;
         rest = behind;
     }
     Ok(names)
+}
+
+// What the call makes, named from local k on, behind what is there; and the number of the next local.
+fn push_made(
+    alloc: Global,
+    theory: &Theory,
+    wanted: &Wanted,
+    call: &PlannedCall,
+    k: usize,
+    names: &mut Items<(Name, Term)>,
+) -> Result<usize, NoMemory>
+    ensures { IfOk result (λ n. (ys : List Term) → names.new ++ named_from n wanted.now.outputs.now wanted.now.answer.now ys ≡ names.old ++ named_from k wanted.now.outputs.now wanted.now.answer.now (terms_of_call theory.now call.now ++ ys)) }
+{
+    let args = call.args.as_slice();
+    match call.callee {
+        Callee::Routine(j) => match theory.routines.get(j) {
+            Some(routine) => push_terms(alloc, wanted, routine.outputs.as_slice(), args, k, names),
+            None => Ok(k),
+        },
+        Callee::Function(j) => match theory.functions.get(j) {
+            Some(function) => push_terms(alloc, wanted, &[function.symbol], args, k, names),
+            None => Ok(k),
+        },
+    }
+}
+
+// The symbols at the terms, named from local k on, behind what is there; and the number of the next local.
+fn push_terms(
+    alloc: Global,
+    wanted: &Wanted,
+    symbols: &[SymId],
+    args: &[Term],
+    k: usize,
+    names: &mut Items<(Name, Term)>,
+) -> Result<usize, NoMemory>
+    ensures { IfOk result (λ n. (ys : List Term) → names.new ++ named_from n wanted.now.outputs.now wanted.now.answer.now ys ≡ names.old ++ named_from k wanted.now.outputs.now wanted.now.answer.now (map (λ (f : SymId). App f args.now) symbols.now ++ ys)) }
+{
+    let mut next = k;
+    let mut rest = symbols;
+    while let [f, behind @ ..] = rest {
+        let args = copies(alloc, args)?;
+        let term = Term::App { f: *f, args };
+        let output = output_for(&term, wanted);
+        let further = next_local(output, next)?;
+        names.push(name_by(alloc, output, next, term)?)?;
+        next = further;
+        rest = behind;
+    }
+    Ok(next)
+}
+
+// The number of the next local, where this one goes to a term for this output.
+fn next_local(output: Option<&Name>, k: usize) -> Result<usize, NoMemory>
+    ensures { IfOk result (λ n. n ≡ local_after (option_copied output.entry) k) }
+{
+    match output {
+        Some(_) => Ok(k),
+        None => k.checked_add(1).ok_or(NoMemory),
+    }
 }
 
 // The term with the output's name, or with that of local k.
@@ -91,19 +108,64 @@ fn name_by(
     alloc: Global,
     output: Option<&Name>,
     k: usize,
-    term: &Term,
+    term: Term,
 ) -> Result<(Name, Term), NoMemory>
-    ensures { IfOk result (λ e. e ≡ named_by (option_copied output.entry) k term.now) }
+    ensures { IfOk result (λ e. e ≡ named_by (option_copied output.entry) k term) }
 {
-    let term = copy(alloc, term)?;
     match output {
         Some(name) => Ok((Name::new(alloc, name.as_str())?, term)),
         None => Ok((local_name(alloc, k)?, term)),
     }
 }
 
+/// Outputs with the terms of their answers, and the first place of each fingerprint among these.
+#[derive(Clone, Copy)]
+pub struct Wanted<'a> {
+    pub outputs: &'a [(Name, SortId)],
+    pub answer: &'a [Term],
+    pub places: &'a HashMap<u64, usize>,
+    ghost agrees: { (p : ℕ) → get nat_eq places.now p ≡ place_from fingerprint_of_term p 0 answer.now },
+}
+
+/// The first place of each fingerprint among the terms.
+pub fn places_of(alloc: Global, terms: &[Term]) -> Result<HashMap<u64, usize>, NoMemory>
+    ensures { IfOk result (λ ps. (p : ℕ) → get nat_eq ps p ≡ place_from fingerprint_of_term p 0 terms.now) }
+{
+    let mut places = HashMap::new(alloc);
+    let mut place: usize = 0;
+    let mut rest = terms;
+    while let [term, behind @ ..] = rest {
+        note(fingerprint_of(term), place, &mut places)?;
+        place += 1;
+        rest = behind;
+    }
+    Ok(places)
+}
+
 /// The name of the first output whose answer is the term, if there is one. Takes no memory.
-pub fn output_for<'a>(
+#[tactic(auto, using(crate::proofs::FingerprintLaws::answering))]
+pub fn output_for<'a>(term: &Term, wanted: &Wanted<'a>) -> Option<&'a Name>
+    ensures { option_copied result ≡ name_of_output term.now wanted.now.outputs.now wanted.now.answer.now }
+{
+    match first_place(wanted, fingerprint_of(term)) {
+        None => None,
+        Some(place) => listed_output(
+            term,
+            behind(wanted.outputs, place),
+            behind(wanted.answer, place),
+        ),
+    }
+}
+
+// The place of the first term of the answer with this fingerprint.
+fn first_place(wanted: &Wanted, fingerprint: u64) -> Option<usize>
+    ensures { result ≡ place_from fingerprint_of_term fingerprint 0 wanted.now.answer.now }
+{
+    wanted.places.get(&fingerprint).copied()
+}
+
+// The name of the first output whose answer is the term, by comparing it with each.
+fn listed_output<'a>(
     term: &Term,
     outputs: &'a [(Name, SortId)],
     answer: &[Term],

@@ -12,7 +12,7 @@ use crate::call::PlannedCall;
 use crate::calling::calls;
 use crate::declaring::{functions, push_dummies, push_locals};
 use crate::named_terms::{NamedTerms, indexed};
-use crate::naming::{made, named};
+use crate::naming::named;
 use crate::stating::{push_copies, statements};
 use am_diagram::Diagram;
 use am_fortran::{Decl, Statement, Unit};
@@ -67,8 +67,7 @@ fn names(
 ) -> Result<NamedTerms, NoMemory>
     ensures { IfOk result (λ ns. ns.entries ≡ named_from 1 diagram.now.outputs answer.now (flat_map (made_by theory.now) calls.now)) }
 {
-    let made = made(alloc, theory, calls)?;
-    let entries = named(alloc, diagram.outputs.as_slice(), answer, made.as_slice())?;
+    let entries = named(alloc, theory, diagram.outputs.as_slice(), answer, calls)?;
     indexed(alloc, entries)
 }
 

@@ -1,20 +1,21 @@
 ghost use Rattle.std.specs.Prelude.{◌≡◌, ◌++◌, ◌∷◌, [], map, slice_index_or, IfOk, OnOk};
 ghost use Rattle.std.specs.List.{flat_map};
+ghost use Rattle.am_term.specs.declared.id.SymId.{SymId};
 ghost use Rattle.am_term.specs.declared.term.Term.{Term};
+ghost use Rattle.am_term.specs.declared.term.Term.TheVariants.{App};
 ghost use Rattle.am_fortran.specs.declared.statement.Operand.TheVariants as operand;
 ghost use Rattle.am_theory.specs.Lookups.{copy_of as copy_at};
 ghost use Rattle.am_diagram.specs.Listed.{names_of};
-ghost use Rattle.am_plan.specs.Calls.{listed};
+ghost use Rattle.am_plan.specs.Calls.{listed, made_by};
 ghost use Rattle.am_plan.specs.Names.{name_of as name_under};
-ghost use Rattle.am_plan.specs.Plan.{written_value as written, operand_for as operand_of, first_name as first_name_under, routine_call as call_of_routine, function_call as call_of_function, statement_of as statement_for, copy_name, copy_to as copied_to, is_set as is_name_set, copies as copies_of};
+ghost use Rattle.am_plan.specs.Plan.{written_value as written, operand_for as operand_of, routine_call as call_of_routine, function_call as call_of_function, statement_of as statement_for, copy_name, copy_to as copied_to, is_set as is_name_set, copies as copies_of};
 
 use crate::call::{Callee, PlannedCall};
 use crate::lookups::{copy_of, is_array, literal_of};
-use crate::named_terms::{NamedTerms, name_of};
-use crate::naming::made_by;
+use crate::named_terms::{NamedTerms, name_at, name_of};
 use am_diagram::Diagram;
 use am_fortran::{Operand, Statement};
-use am_term::{Name, NoMemory, SortId, Term};
+use am_term::{Name, NoMemory, SortId, SymId, Term};
 use am_theory::{FortranFunction, LitValue, Routine, Theory};
 use sqlite_items::Items;
 use std::alloc::Global;
@@ -89,18 +90,20 @@ pub fn operands_for(
     Ok(made)
 }
 
-// The names that hold the terms, behind what is there.
+// The names that hold the symbols at the terms, behind what is there.
 fn push_names(
     alloc: Global,
     names: &NamedTerms,
-    terms: &[Term],
+    symbols: &[SymId],
+    args: &[Term],
     made: &mut Items<Operand>,
 ) -> Result<(), NoMemory>
-    ensures { OnOk result (made.new ≡ made.old ++ map (λ (x : Term). operand.Name (name_under names.now.entries x)) terms.now) }
+    ensures { OnOk result (made.new ≡ made.old ++ map (λ (x : Term). operand.Name (name_under names.now.entries x)) (map (λ (f : SymId). App f args.now) symbols.now)) }
 {
-    let mut rest = terms;
-    while let [term, behind @ ..] = rest {
-        made.push(held(alloc, names, term)?)?;
+    let mut rest = symbols;
+    while let [f, behind @ ..] = rest {
+        let name = Name::new(alloc, name_at(names, *f, args))?;
+        made.push(Operand::Name(name))?;
         rest = behind;
     }
     Ok(())
@@ -139,11 +142,12 @@ fn routine_call(
     call: &PlannedCall,
     routine: &Routine,
 ) -> Result<Statement, NoMemory>
+    requires { made_by theory.now call.now ≡ map (λ (f : SymId). App f call.now.args) routine.now.outputs }
     ensures { IfOk result (λ s. s ∷ [] ≡ call_of_routine theory.now diagram.now names.now.entries call.now (Some routine.now)) }
 {
-    let terms = made_by(alloc, theory, call)?;
-    let mut args = operands_for(alloc, theory, diagram, names, call.args.as_slice())?;
-    push_names(alloc, names, terms.as_slice(), &mut args)?;
+    let inputs = call.args.as_slice();
+    let mut args = operands_for(alloc, theory, diagram, names, inputs)?;
+    push_names(alloc, names, routine.outputs.as_slice(), inputs, &mut args)?;
     let routine = Name::new(alloc, routine.name.as_str())?;
     Ok(Statement::Call { routine, args })
 }
@@ -156,27 +160,18 @@ fn function_call(
     call: &PlannedCall,
     function: &FortranFunction,
 ) -> Result<Statement, NoMemory>
+    requires { made_by theory.now call.now ≡ App function.now.symbol call.now.args ∷ [] }
     ensures { IfOk result (λ s. s ∷ [] ≡ call_of_function theory.now diagram.now names.now.entries call.now (Some function.now)) }
 {
-    let terms = made_by(alloc, theory, call)?;
-    let target = Name::new(alloc, first_name(names, terms.as_slice()))?;
-    let args = operands_for(alloc, theory, diagram, names, call.args.as_slice())?;
+    let inputs = call.args.as_slice();
+    let target = Name::new(alloc, name_at(names, function.symbol, inputs))?;
+    let args = operands_for(alloc, theory, diagram, names, inputs)?;
     let function = Name::new(alloc, function.name.as_str())?;
     Ok(Statement::Apply {
         target,
         function,
         args,
     })
-}
-
-// The name of the first of the terms; the empty text where there is none. Takes no memory.
-fn first_name<'a>(names: &'a NamedTerms, terms: &[Term]) -> &'a str
-    ensures { result.now ≡ first_name_under names.now.entries terms.now }
-{
-    match terms {
-        [] => "",
-        [term, ..] => name_of(names, term),
-    }
 }
 
 /// The statements of the calls, in order.

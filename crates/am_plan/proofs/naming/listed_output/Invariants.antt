@@ -1,6 +1,6 @@
 use Rattle.std.proofs.Common.{◌≡◌, length}
 use Rattle.am_plan.specs.Names.{output_for}
-use Rattle.am_plan.proofs.naming.output_for.Given as goal
+use Rattle.am_plan.proofs.naming.listed_output.Given as goal
 
 -- what is left decides
 abbrev pub invariant-loop-left : goal.invariant-loop-left
