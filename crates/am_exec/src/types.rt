@@ -8,7 +8,8 @@ use am_fortran::{FortranType, Unit};
 use am_term::{Name, SortId};
 use am_theory::{Rep, Theory};
 
-fn dummy_type(rep: Rep) -> FortranType
+/// The type that a representation gives to a dummy. Takes no memory, as all in this file.
+pub fn dummy_type(rep: Rep) -> FortranType
     ensures { result ≡ dummy_kind rep }
 {
     match rep {
@@ -22,7 +23,8 @@ fn dummy_type(rep: Rep) -> FortranType
     }
 }
 
-fn local_type(rep: Rep) -> FortranType
+/// The type that a representation gives to a local or a function.
+pub fn local_type(rep: Rep) -> FortranType
     ensures { result ≡ local_kind rep }
 {
     match rep {
