@@ -32,12 +32,13 @@ use Rattle.am_exec.proofs.Held.{eq_is, eq_same}
 use Rattle.am_term.proofs.Tests.{fails}
 use Rattle.am_plan.specs.declared.call.Callee.{Callee}
 use Rattle.am_plan.specs.declared.call.Callee.TheVariants as callee
-use Rattle.am_plan.specs.declared.call.PlannedCall.{PlannedCall}
-use Rattle.am_plan.specs.Calls.{calls, listed, made_by, made}
-use Rattle.am_plan.specs.Names.{output_for, Named, named_from, named, locals, name_of, local_name}
+use Rattle.am_plan.specs.Calls.{PlannedCall, calls, listed, made_by, made}
+use Rattle.am_plan.specs.Names.{output_for, Named, named, locals, name_of, local_name}
+use Rattle.am_plan.specs.Numbering.{named_from}
 use Rattle.am_plan.specs.Plan.{IsPlan, statement_of, copies, is_set, function_at, functions_used}
 use Rattle.am_plan.specs.Answers.{Serves, AllServe, IsAnswerFor}
 use Rattle.am_plan.specs.Laws.{PlanGivesAnswer}
+use Rattle.am_plan.proofs.Numbered.{named-are}
 use Rattle.am_plan.proofs.Membership.{Among, Different, all-among, among-map, map-among, among-left, among-right, among-split, flat-among, among-flat, different-append}
 use Rattle.am_plan.proofs.Holding.{names_in, is_among-so, among-is, inputs-names}
 use Rattle.am_plan.proofs.Standing.{Available, all-index}
@@ -149,8 +150,7 @@ module _ (t : Theory) (d : Diagram) (answer : List Term) (u : Subroutine) (h : W
       less a b e = omega arith
 
   names-are : names ≡ named_from 1 d.outputs answer all_made
-  unfolding named
-  names-are = refl
+  names-are = named-are t d answer
 
   named-all : map (λ (e : Named). e.1) names ≡ all_made
   named-all = ap (λ (es : List Named). map (λ (e : Named). e.1) es) names-are ∙ named-terms d.outputs answer 1 all_made

@@ -9,7 +9,7 @@ use Rattle.std.proofs.lemmas.List.Folds.{flat_map-map}
 use Rattle.am_term.specs.declared.id.SortId.{SortId}
 use Rattle.am_term.specs.declared.id.SymId.{SymId}
 use Rattle.am_term.specs.declared.term.Term.{Term}
-use Rattle.am_term.specs.declared.term.Term.TheViews.{out-Term, the_lemmas}
+use Rattle.am_term.specs.declared.term.Term.TheViews.{the_lemmas}
 use Rattle.am_term.specs.declared.term.Term.TheVariants.{Var, In, App, outs-Var, outs-In, outs-App}
 use Rattle.am_term.specs.Fold.{para-Var, para-In, para-App}
 use Rattle.am_term.specs.Same.{same_terms}
@@ -20,8 +20,7 @@ use Rattle.am_clause.proofs.Firsts.{with_new-none, with_new-append, with_new-old
 use Rattle.am_theory.specs.declared.theory.Theory.{Theory}
 use Rattle.am_plan.specs.declared.call.Callee.{Callee}
 use Rattle.am_plan.specs.declared.call.Callee.TheVariants as callee
-use Rattle.am_plan.specs.declared.call.PlannedCall.{PlannedCall}
-use Rattle.am_plan.specs.Calls.{under_step, terms_below, completed, callee_of, call_with, call_at, call_of, listed, same_callee, same_call, asked, calls}
+use Rattle.am_plan.specs.Calls.{PlannedCall, under_step, terms_below, completed, callee_of, call_with, call_at, call_of, listed, same_callee, same_call, asked, calls}
 
 -- ---- the terms in a term
 pub below-Var : (n : ℕ) (s : SortId) → terms_below (Var n s) ≡ []

@@ -16,8 +16,7 @@ use Rattle.am_diagram.specs.declared.diagram.Diagram.{Diagram}
 use Rattle.am_diagram.specs.Listed.{sorts_in}
 use Rattle.am_plan.specs.declared.call.Callee.{Callee}
 use Rattle.am_plan.specs.declared.call.Callee.TheVariants as callee
-use Rattle.am_plan.specs.declared.call.PlannedCall.{PlannedCall}
-use Rattle.am_plan.specs.Calls.{under_step, terms_below, completed, call_of, call_with, listed, same_call, asked, calls, outputs_at, value_at, made_by, made}
+use Rattle.am_plan.specs.Calls.{PlannedCall, under_step, terms_below, completed, call_of, call_with, listed, same_call, asked, calls, outputs_at, value_at, made_by, made}
 use Rattle.am_plan.specs.Answers.{AllServe}
 use Rattle.am_plan.proofs.Standing.{all-index}
 use Rattle.am_plan.proofs.Running.{CalleeFits}

@@ -20,8 +20,8 @@ use Rattle.am_exec.proofs.Held.{eq_is, eq_same}
 use Rattle.am_fortran.specs.declared.statement.Decl.{Decl}
 use Rattle.am_theory.specs.declared.theory.FortranFunction.{FortranFunction}
 use Rattle.am_theory.specs.declared.theory.Theory.{Theory}
-use Rattle.am_plan.specs.declared.call.PlannedCall.{PlannedCall}
 use Rattle.am_plan.specs.Plan.{head_of, function_at, same_function, functions_used, function_decl}
+use Rattle.am_plan.specs.Calls.{PlannedCall}
 
 -- ---- lists without repetitions under a likeness
 module _ {X : Type 0} (like : X → X → Bool) (back : (x y : X) → like x y ≡ true → like y x ≡ true) (through : (x y z : X) → like x y ≡ true → like x z ≡ true → like y z ≡ true) where

@@ -35,11 +35,11 @@ use Rattle.am_fortran.specs.Well.{is_between, is_type, is_declaration, is_operan
 use Rattle.am_exec.specs.Types.{dummy_type}
 use Rattle.am_plan.specs.declared.call.Callee.{Callee}
 use Rattle.am_plan.specs.declared.call.Callee.TheVariants as callee
-use Rattle.am_plan.specs.declared.call.PlannedCall.{PlannedCall}
 use Rattle.am_plan.specs.Answers.{AllServe, IsAnswerFor}
-use Rattle.am_plan.specs.Calls.{completed, listed, calls, outputs_at, value_at, made_at, made_by, made}
+use Rattle.am_plan.specs.Calls.{PlannedCall, completed, listed, calls, outputs_at, value_at, made_at, made_by, made}
 use Rattle.am_plan.specs.Names.{Named, named, locals, name_of}
 use Rattle.am_plan.specs.Plan.{literal_or, literal_of, operand_for, routine_call, first_name, function_call, statement_at, statement_of, is_array_rep, copy_name, copy_to, is_set, copies, rep_or_double, dummy_decl, head_of, rep_of_sort, rep_of_head, local_decl, function_at, same_function, functions_used, function_decl, arguments}
+use Rattle.am_plan.proofs.Numbered.{named-are}
 use Rattle.am_plan.proofs.Membership.{Among, among-flat, all-among}
 use Rattle.am_plan.proofs.Operands.{operand-In, operand-App}
 use Rattle.am_plan.proofs.Reached.{Good, Applied, applied, fit-count, not-ready, all-good, args-among, self-among, IsCallOf, call-of, RoutineAt, FunctionAt, callee-at, made-there}
@@ -191,8 +191,7 @@ module _ (t : Theory) (h : WellFormed t) (d : Diagram) (g : DiagramWell t d) (an
   outputs-fortran = free-all t (names_of d.outputs) g.outputs_named
 
   made-fortran : (x : Term) → Among x (made t answer) → is_fortran_name (name_of names x) ≡ true
-  unfolding named
-  made-fortran x m = name-fortran d.outputs answer outputs-fortran 1 (made t answer) x m
+  made-fortran x m = subst (λ (es : List Named). is_fortran_name (name_of es x) ≡ true) (sym (named-are t d answer)) (name-fortran d.outputs answer outputs-fortran 1 (made t answer) x m)
 
   -- ---- operands
   literal-well : (f : SymId) (l : LiteralDecl) → literal_of t f ≡ Some l → is_operand (literal_or (operand.Name []) (Some l)) ≡ true
@@ -315,8 +314,7 @@ module _ (t : Theory) (h : WellFormed t) (d : Diagram) (g : DiagramWell t d) (an
       both (x ∷ xs) e = and_both (is_fortran_name x.0) (list_all is_fortran_name (names_of (xs ++ d.outputs))) (and_left (is_fortran_name x.0) (list_all is_fortran_name (names_of xs)) e) (both xs (and_right (is_fortran_name x.0) (list_all is_fortran_name (names_of xs)) e))
 
   names-fortran : list_all (λ (e : Named). is_fortran_name e.0) names ≡ true
-  unfolding named
-  names-fortran = named-all d.outputs answer outputs-fortran 1 (made t answer)
+  names-fortran = subst (λ (es : List Named). list_all (λ (e : Named). is_fortran_name e.0) es ≡ true) (sym (named-are t d answer)) (named-all d.outputs answer outputs-fortran 1 (made t answer))
 
   declarations-well : list_all is_declaration (map (dummy_decl t) (arguments d) ++ map (local_decl t) (locals d.outputs answer names) ++ map (function_decl t) (functions_used t (calls t answer))) ≡ true
   declarations-well =

@@ -21,7 +21,8 @@ use Rattle.am_theory.specs.declared.theory.Theory.{Theory}
 use Rattle.am_diagram.specs.Listed.{names_of}
 use Rattle.am_fortran.specs.Well.{is_between, is_type, is_text_byte, is_operand}
 use Rattle.am_exec.specs.Types.{dummy_type, local_type, is_scalar}
-use Rattle.am_plan.specs.Names.{digit, local_name, output_for, Named, named_by, next_local, named_from, local_by, locals, name_of}
+use Rattle.am_plan.specs.Names.{digit, local_name, output_for, Named, named_by, local_by, locals, name_of}
+use Rattle.am_plan.specs.Numbering.{next_local, named_from}
 use Rattle.am_plan.specs.Plan.{written_value}
 use Rattle.am_plan.proofs.Membership.{Among}
 

@@ -1,4 +1,5 @@
 pub mod AnswerGiven
+pub mod Applied
 pub mod Asked
 pub mod CallStatements
 pub mod Callees
@@ -9,6 +10,7 @@ pub mod Holding
 pub mod Locals
 pub mod Membership
 pub mod Needed
+pub mod Numbered
 pub mod Once
 pub mod PlanDeclared
 pub mod Running

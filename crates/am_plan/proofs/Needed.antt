@@ -21,8 +21,7 @@ use Rattle.am_diagram.specs.Listed.{sorts_in}
 use Rattle.am_exec.proofs.Listed.{contains-here, contains-later}
 use Rattle.am_plan.specs.declared.call.Callee.{Callee}
 use Rattle.am_plan.specs.declared.call.Callee.TheVariants as callee
-use Rattle.am_plan.specs.declared.call.PlannedCall.{PlannedCall}
-use Rattle.am_plan.specs.Calls.{completed, callee_of, call_with, listed, same_call, asked, calls, made_by}
+use Rattle.am_plan.specs.Calls.{PlannedCall, completed, callee_of, call_with, listed, same_call, asked, calls, made_by}
 use Rattle.am_plan.specs.Names.{Named, named}
 use Rattle.am_plan.specs.Plan.{literal_of, statement_of, routine_call, function_call}
 use Rattle.am_plan.specs.Laws.{are_different, EachCallOnce, IsNeeded, AreNeeded, NothingNeedless}

@@ -20,8 +20,7 @@ use Rattle.am_diagram.specs.declared.diagram.Diagram.{Diagram}
 use Rattle.am_diagram.specs.Listed.{sorts_in}
 use Rattle.am_plan.specs.declared.call.Callee.{Callee}
 use Rattle.am_plan.specs.declared.call.Callee.TheVariants as callee
-use Rattle.am_plan.specs.declared.call.PlannedCall.{PlannedCall}
-use Rattle.am_plan.specs.Calls.{call_with, same_callee, same_call, asked, calls, outputs_at, value_at, made_by, made}
+use Rattle.am_plan.specs.Calls.{PlannedCall, call_with, same_callee, same_call, asked, calls, outputs_at, value_at, made_by, made}
 use Rattle.am_plan.proofs.Membership.{Among, Different, all-among, among-map, map-among, among-left, among-right, among-split, flat-among, among-flat, different-left, different-right, different-append, different-map}
 use Rattle.am_plan.proofs.Standing.{Available}
 use Rattle.am_plan.proofs.Callees.{Computes, one-callee, outputs-different}

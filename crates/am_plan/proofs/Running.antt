@@ -26,8 +26,7 @@ use Rattle.am_exec.specs.ItemFaults.{is_target, declared_names, lacks_dummy}
 use Rattle.am_exec.specs.Terms.{with_term, terms_held}
 use Rattle.am_plan.specs.declared.call.Callee.{Callee}
 use Rattle.am_plan.specs.declared.call.Callee.TheVariants as callee
-use Rattle.am_plan.specs.declared.call.PlannedCall.{PlannedCall}
-use Rattle.am_plan.specs.Calls.{call_with, outputs_at, value_at, made_by}
+use Rattle.am_plan.specs.Calls.{PlannedCall, call_with, outputs_at, value_at, made_by}
 use Rattle.am_plan.specs.Names.{Named, name_of}
 use Rattle.am_plan.specs.Plan.{operand_for, routine_call, function_call, first_name, statement_of, is_set, copy_to, copies}
 use Rattle.am_plan.proofs.Membership.{Among, Different, among-all, all-among, among-map, among-left, among-right, different-left, different-right, different-apart}

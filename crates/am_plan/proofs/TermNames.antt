@@ -8,7 +8,8 @@ use Rattle.am_term.specs.Same.{same_term}
 use Rattle.am_term.proofs.Alike.{same_term-refl, same_term-sound}
 use Rattle.am_term.proofs.Tests.{and_both, fails}
 use Rattle.am_diagram.specs.Listed.{names_of}
-use Rattle.am_plan.specs.Names.{digit, local_name, output_for, Named, named_by, next_local, named_from, name_of}
+use Rattle.am_plan.specs.Names.{digit, local_name, output_for, Named, named_by, name_of}
+use Rattle.am_plan.specs.Numbering.{next_local, named_from}
 use Rattle.am_plan.proofs.Membership.{Among, Different, among-map, map-among}
 
 -- ---- locals

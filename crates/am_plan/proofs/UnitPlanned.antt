@@ -1,5 +1,5 @@
 -- Making the unit.
-use Rattle.std.proofs.Common.{◌≡◌, refl, List}
+use Rattle.std.proofs.Common.{◌≡◌, refl, List, []}
 use Rattle.std.proofs.lemmas.Grind.{common_steps}
 use Rattle.std.proofs.lemmas.List.{map-append, append_assoc}
 use Rattle.std.specs.List.{flat_map}
@@ -7,9 +7,9 @@ use Rattle.am_term.specs.declared.term.Term.{Term}
 use Rattle.am_theory.specs.declared.theory.Theory.{Theory}
 use Rattle.am_diagram.specs.declared.diagram.Diagram.{Diagram}
 use Rattle.am_plan.specs.Calls.{calls, made_by}
-use Rattle.am_plan.specs.Names.{named, named_from}
+use Rattle.am_plan.specs.Names.{named, named_behind}
 
-pub names-are : (t : Theory) (d : Diagram) (answer : List Term) → named_from 1 d.outputs answer (flat_map (made_by t) (calls t answer)) ≡ named t d answer
+pub names-are : (t : Theory) (d : Diagram) (answer : List Term) → named_behind d.outputs answer [] (flat_map (made_by t) (calls t answer)) ≡ named t d answer
 unfolding named
 names-are t d answer = refl
 

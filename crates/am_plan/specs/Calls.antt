@@ -14,7 +14,6 @@ use Rattle.am_theory.specs.declared.theory.FortranFunction.{FortranFunction}
 use Rattle.am_theory.specs.declared.theory.Theory.{Theory}
 use Rattle.am_plan.specs.declared.call.Callee.{Callee}
 use Rattle.am_plan.specs.declared.call.Callee.TheVariants as callee
-use Rattle.am_plan.specs.declared.call.PlannedCall.{PlannedCall}
 
 -- ---- the terms in a term, its arguments' from left to right before itself
 abbrev pub under_step : Term-F (Term × List Term) → List Term
@@ -51,6 +50,11 @@ function_from k f (g ∷ gs) = cond (f.0 == g.symbol.0) (Some (callee.Function k
 -- the routine or the listed function of a symbol; a literal has none
 unfoldable pub callee_of : Theory → SymId → Option Callee
 callee_of t f = or_else (routine_from 0 f t.routines) (function_from 0 f t.functions)
+
+-- a call: what is called, and the terms that its inputs stand for
+pub record PlannedCall : Type 0 where
+  pub callee : Callee
+  pub args : List Term
 
 abbrev pub call_with : List Term → Callee → PlannedCall
 call_with args c = record { callee = c; args = args }

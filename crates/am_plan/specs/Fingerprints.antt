@@ -10,7 +10,7 @@ use Rattle.am_term.specs.declared.term.Term.TheFolds.{fold-Term}
 use Rattle.am_term.specs.Fold.{fold-Var, fold-In, fold-App}
 use Rattle.am_plan.specs.declared.call.Callee.{Callee}
 use Rattle.am_plan.specs.declared.call.Callee.TheVariants as callee
-use Rattle.am_plan.specs.declared.call.PlannedCall.{PlannedCall}
+use Rattle.am_plan.specs.Calls.{PlannedCall}
 
 -- a fingerprint with one more number in it
 unfoldable pub mix : ℕ → ℕ → ℕ
@@ -51,6 +51,6 @@ callee_fingerprint (callee.Function k) fingerprints = fingerprint_with 5 k finge
 abbrev pub call_fingerprint : PlannedCall → ℕ
 call_fingerprint c = callee_fingerprint c.callee (map fingerprint c.args)
 
--- the place, from number k on, of the first that has this fingerprint
-abbrev pub place_from : {X : Type 0} → (X → ℕ) → ℕ → ℕ → List X → Option ℕ
-place_from fingerprint_of p k xs = position_from (λ x. p == fingerprint_of x) k xs
+-- the place, from number k on, of the first of these fingerprints that is this one
+abbrev pub place_from : ℕ → ℕ → List ℕ → Option ℕ
+place_from p k fingerprints = position_from (λ q. p == q) k fingerprints

@@ -9,8 +9,7 @@ use Rattle.am_diagram.specs.declared.diagram.Diagram.{Diagram}
 use Rattle.am_diagram.specs.Facts.{WellFormed}
 use Rattle.am_fortran.specs.declared.unit.Unit.{Unit as Subroutine}
 use Rattle.am_exec.specs.Terms.{terms}
-use Rattle.am_plan.specs.declared.call.PlannedCall.{PlannedCall}
-use Rattle.am_plan.specs.Calls.{same_call, asked, calls, made_by}
+use Rattle.am_plan.specs.Calls.{PlannedCall, same_call, asked, calls, made_by}
 use Rattle.am_plan.specs.Names.{named}
 use Rattle.am_plan.specs.Plan.{IsPlan, statement_of}
 use Rattle.am_plan.specs.Answers.{IsAnswerFor}

@@ -4,4 +4,5 @@ pub mod Calls
 pub mod Fingerprints
 pub mod Laws
 pub mod Names
+pub mod Numbering
 pub mod Plan

@@ -1,5 +1,6 @@
 -- What the terms that calls make are called.
-use Rattle.std.specs.Prelude.{◌+◌, ◌++◌, ◌/◌, ◌%◌, ℕ, Option, Some, None, List, [], ◌∷◌, if◌then◌else◌}
+use Rattle.std.specs.Prelude.{◌+◌, ◌++◌, ◌/◌, ◌%◌, ℕ, Bool, true, false, Option, Some, None, List, [], ◌∷◌, length, if◌then◌else◌}
+use Rattle.std.specs.List.{filter, flat_map}
 use Rattle.am_term.specs.declared.id.SortId.{SortId}
 use Rattle.am_term.specs.declared.term.Term.{Term}
 use Rattle.am_term.specs.Same.{same_term}
@@ -25,23 +26,32 @@ output_for x (o ∷ os) (a ∷ as_) = if same_term x a then Some o.0 else output
 abbrev pub Named : Type 0
 Named = List ℕ × Term
 
+-- an output's name, or that of local k
 abbrev pub named_by : Option (List ℕ) → ℕ → Term → Named
 named_by (Some n) k x = (n, x)
 named_by None k x = (local_name k, x)
 
--- a local was taken for it
-abbrev pub next_local : Option (List ℕ) → ℕ → ℕ
-next_local (Some n) k = k
-next_local None k = k + 1
+abbrev pub is_absent : Option (List ℕ) → Bool
+is_absent None = true
+is_absent (Some n) = false
 
--- each term by the first output whose answer it is, else by the next local, from number k on
-abbrev pub named_from : ℕ → List (List ℕ × SortId) → List Term → List Term → List Named
-named_from k outputs answer [] = []
-named_from k outputs answer (x ∷ xs) = named_by (output_for x outputs answer) k x ∷ named_from (next_local (output_for x outputs answer) k) outputs answer xs
+-- how many of these terms locals hold: those that no output's answer is
+abbrev pub locals_among : List (List ℕ × SortId) → List Term → List Term → ℕ
+locals_among outputs answer xs = length (filter (λ (x : Term). is_absent (output_for x outputs answer)) xs)
 
--- the terms that the calls make, with their names: the locals are T00001 and up
+-- a term that stands behind these: called by the first output whose answer it is, else by the local whose number is one
+-- more than there are locals before
+abbrev pub named_at : List (List ℕ × SortId) → List Term → List Term → Term → Named
+named_at outputs answer before x = named_by (output_for x outputs answer) (locals_among outputs answer before + 1) x
+
+-- each of the terms with its name, in order, behind these
+abbrev pub named_behind : List (List ℕ × SortId) → List Term → List Term → List Term → List Named
+named_behind outputs answer before [] = []
+named_behind outputs answer before (x ∷ xs) = named_at outputs answer before x ∷ named_behind outputs answer (before ++ x ∷ []) xs
+
+-- the terms that the calls make, with their names: a term's place among them tells its local's number
 unfoldable pub named : Theory → Diagram → List Term → List Named
-named t d answer = named_from 1 d.outputs answer (made t answer)
+named t d answer = named_behind d.outputs answer [] (made t answer)
 
 abbrev pub local_by : Option (List ℕ) → Named → List Named
 local_by (Some n) e = []
@@ -49,8 +59,7 @@ local_by None e = e ∷ []
 
 -- the locals with their terms, in order: what is called by no output's name
 abbrev pub locals : List (List ℕ × SortId) → List Term → List Named → List Named
-locals outputs answer [] = []
-locals outputs answer (e ∷ es) = local_by (output_for e.1 outputs answer) e ++ locals outputs answer es
+locals outputs answer es = flat_map (λ (e : Named). local_by (output_for e.1 outputs answer) e) es
 
 -- what a term is called; nothing where no call makes it
 abbrev pub name_of : List Named → Term → List ℕ

@@ -29,8 +29,7 @@ use Rattle.am_fortran.specs.declared.unit.Unit.{Unit as Subroutine}
 use Rattle.am_exec.specs.Types.{dummy_type, local_type, is_scalar}
 use Rattle.am_plan.specs.declared.call.Callee.{Callee}
 use Rattle.am_plan.specs.declared.call.Callee.TheVariants as callee
-use Rattle.am_plan.specs.declared.call.PlannedCall.{PlannedCall}
-use Rattle.am_plan.specs.Calls.{calls, made_by, listed}
+use Rattle.am_plan.specs.Calls.{PlannedCall, calls, made_by, listed}
 use Rattle.am_plan.specs.Names.{Named, named, locals, name_of}
 
 -- ---- operands

@@ -4,7 +4,7 @@ ghost use Rattle.am_plan.specs.Calls.{has_symbol as is_symbol_in, routine_from, 
 
 use crate::call::{Callee, PlannedCall};
 use crate::seen::{Seen, add, is_called};
-use am_term::{NoMemory, SymId, Term, copies};
+use am_term::{NoMemory, SymId, Term};
 use am_theory::{FortranFunction, Routine, Theory};
 use sqlite_items::Items;
 use std::alloc::Global;
@@ -66,31 +66,26 @@ fn function_of(functions: &[FortranFunction], symbol: SymId) -> Option<Callee>
 
 /// The calls that the terms of an answer ask for, each different one once.
 #[tactic(auto, using(crate::proofs::Asking::asking))]
-pub fn calls(
+pub fn calls<'a>(
     alloc: Global,
     theory: &Theory,
-    answer: &[Term],
-) -> Result<Items<PlannedCall>, NoMemory>
+    answer: &'a [Term],
+) -> Result<Items<PlannedCall<'a>>, NoMemory>
     ensures { IfOk result (λ cs. cs ≡ calls_asked theory.now answer.now) }
 {
     let mut seen = Seen::new(alloc);
-    collect_all(alloc, theory, answer, &mut seen)?;
+    collect_all(theory, answer, &mut seen)?;
     Ok(seen.into_calls())
 }
 
 // The calls of the terms in turn, each behind what was seen unless it was seen.
 #[cycle(collecting)]
 #[tactic(auto, using(crate::proofs::Asking::asking))]
-fn collect_all(
-    alloc: Global,
-    theory: &Theory,
-    terms: &[Term],
-    seen: &mut Seen,
-) -> Result<(), NoMemory>
+fn collect_all<'a>(theory: &Theory, terms: &'a [Term], seen: &mut Seen<'a>) -> Result<(), NoMemory>
     ensures { OnOk result (seen.new.calls ≡ with_new same_call seen.old.calls (asked theory.now terms.now)) }
 {
     for term in terms {
-        collect(alloc, theory, term, seen)?;
+        collect(theory, term, seen)?;
     }
     Ok(())
 }
@@ -98,42 +93,36 @@ fn collect_all(
 // The calls of the arguments from left to right, and then the term's own.
 #[cycle(collecting)]
 #[tactic(auto, using(crate::proofs::Asking::asking))]
-fn collect(alloc: Global, theory: &Theory, term: &Term, seen: &mut Seen) -> Result<(), NoMemory>
+fn collect<'a>(theory: &Theory, term: &'a Term, seen: &mut Seen<'a>) -> Result<(), NoMemory>
     ensures { OnOk result (seen.new.calls ≡ with_new same_call seen.old.calls (asked theory.now (term.now ∷ []))) }
 {
     match term {
         Term::Var { .. } => Ok(()),
         Term::In { .. } => Ok(()),
         Term::App { f, args } => {
-            collect_all(alloc, theory, args.as_slice(), seen)?;
-            ask(alloc, callee_of(theory, *f), args.as_slice(), seen)
+            collect_all(theory, args.as_slice(), seen)?;
+            ask(callee_of(theory, *f), args.as_slice(), seen)
         }
     }
 }
 
-// The call at these terms, if there is something to call.
+// The call at these terms is behind what was seen, if there is something to call and it wasn't seen.
 #[tactic(auto, using(crate::proofs::Asking::asking))]
-fn ask(
-    alloc: Global,
-    callee: Option<Callee>,
-    args: &[Term],
-    seen: &mut Seen,
-) -> Result<(), NoMemory>
+fn ask<'a>(callee: Option<Callee>, args: &'a [Term], seen: &mut Seen<'a>) -> Result<(), NoMemory>
     ensures { OnOk result (seen.new.calls ≡ with_new same_call seen.old.calls (listed (option_map (call_with args.now) callee))) }
 {
     match callee {
         None => Ok(()),
-        Some(callee) => note(alloc, callee, args, seen),
+        Some(callee) => note(PlannedCall::new(callee, args), seen),
     }
 }
 
 #[tactic(auto, using(crate::proofs::Asking::asking))]
-fn note(alloc: Global, callee: Callee, args: &[Term], seen: &mut Seen) -> Result<(), NoMemory>
-    ensures { OnOk result (seen.new.calls ≡ with_new same_call seen.old.calls (call_with args.now callee ∷ [])) }
+fn note<'a>(call: PlannedCall<'a>, seen: &mut Seen<'a>) -> Result<(), NoMemory>
+    ensures { OnOk result (seen.new.calls ≡ with_new same_call seen.old.calls (call.entry ∷ [])) }
 {
-    if is_called(callee, args, seen) {
+    if is_called(&call, seen) {
         return Ok(());
     }
-    let args = copies(alloc, args)?;
-    add(seen, PlannedCall { callee, args })
+    add(seen, call)
 }

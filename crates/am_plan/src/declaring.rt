@@ -5,12 +5,14 @@ ghost use Rattle.am_plan.specs.Names.{locals as locals_in};
 ghost use Rattle.am_plan.specs.Plan.{dummy_decl as dummy_declaration, local_decl as local_declaration, function_decl as function_declaration, functions_used as functions_called, function_at};
 ghost use Rattle.am_plan.specs.Calls.{listed};
 
+use crate::application::Application;
 use crate::call::{Callee, PlannedCall};
-use crate::lookups::{dummy_type, local_type, rep_of_head, rep_of_sort};
-use crate::naming::{Wanted, output_for, places_of};
+use crate::lookups::{rep_of_head, rep_of_sort};
+use crate::naming::{Wanted, index_of, output_for};
+use am_exec::{dummy_type, local_type};
 use am_fortran::Decl;
 use am_term::{Name, NoMemory, SortId, Term};
-use am_theory::{FortranFunction, Rep, Theory};
+use am_theory::{FortranFunction, Theory};
 use sqlite_items::Items;
 use std::alloc::Global;
 
@@ -46,16 +48,16 @@ pub fn push_locals(
     theory: &Theory,
     outputs: &[(Name, SortId)],
     answer: &[Term],
-    names: &[(Name, Term)],
+    names: &[(Name, Application)],
     made: &mut Items<Decl>,
 ) -> Result<(), NoMemory>
     ensures { OnOk result (made.new ≡ made.old ++ map (local_declaration theory.now) (locals_in outputs.now answer.now names.now)) }
 {
-    let places = places_of(alloc, answer)?;
+    let index = index_of(alloc, answer)?;
     let wanted = Wanted {
         outputs,
         answer,
-        places: &places,
+        index: &index,
     };
     let mut rest = names;
     while let [entry, behind @ ..] = rest {
@@ -69,19 +71,17 @@ pub fn push_locals(
 
 // A local has the type of its term's sort.
 #[tactic(auto, using(crate::proofs::Declared::declaring))]
-fn local_decl(alloc: Global, theory: &Theory, name: &Name, term: &Term) -> Result<Decl, NoMemory>
+fn local_decl(
+    alloc: Global,
+    theory: &Theory,
+    name: &Name,
+    term: &Application,
+) -> Result<Decl, NoMemory>
     ensures { IfOk result (λ e. e ≡ local_declaration theory.now (name.now, term.now)) }
 {
-    let rep = match term {
-        Term::Var { .. } => Rep::Double,
-        Term::In { .. } => Rep::Double,
-        Term::App { f, .. } => rep_of_head(theory, *f),
-    };
+    let ty = local_type(rep_of_head(theory, term.symbol()));
     let name = Name::new(alloc, name.as_str())?;
-    Ok(Decl {
-        ty: local_type(rep),
-        name,
-    })
+    Ok(Decl { ty, name })
 }
 
 /// The declarations of the listed functions that are called, in the order of their first use.
@@ -95,7 +95,7 @@ pub fn functions(
 {
     let mut made = Items::new(alloc);
     for call in calls {
-        if let Some(function) = called_function(theory, call.callee) {
+        if let Some(function) = called_function(theory, call.callee()) {
             declare(alloc, theory, function, &mut made)?;
         }
     }

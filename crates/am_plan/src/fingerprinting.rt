@@ -1,4 +1,4 @@
-ghost use Rattle.std.specs.Prelude.{◌≡◌, length, map};
+ghost use Rattle.std.specs.Prelude.{◌≡◌, map};
 ghost use Rattle.am_term.specs.declared.term.Term.TheVariants.{App};
 ghost use Rattle.am_plan.specs.Calls.{call_with};
 ghost use Rattle.am_plan.specs.Fingerprints.{mix as mixed, fingerprint as fingerprint_of_term, fingerprint_with, call_fingerprint as fingerprint_of_call};

@@ -1,38 +1,40 @@
-ghost use Rattle.std.specs.Prelude.{◌≡◌, ◌++◌, ◌<◌, ◌≤◌, ℕ, List, map, IfOk, nat_eq, option_copied};
-ghost use Rattle.std.specs.HashMap.{get};
+ghost use Rattle.std.specs.Prelude.{◌≡◌, ◌++◌, ◌<◌, ◌≤◌, List, [], map, IfOk, option_copied};
 ghost use Rattle.std.specs.List.{flat_map};
 ghost use Rattle.am_term.specs.declared.id.SymId.{SymId};
 ghost use Rattle.am_term.specs.declared.term.Term.{Term};
 ghost use Rattle.am_term.specs.declared.term.Term.TheVariants.{App};
 ghost use Rattle.am_plan.specs.Calls.{made_by as terms_of_call};
-ghost use Rattle.am_plan.specs.Fingerprints.{fingerprint as fingerprint_of_term, place_from};
-ghost use Rattle.am_plan.specs.Names.{digit as digit_of, local_name as name_of_local, output_for as name_of_output, named_by, named_from, next_local as local_after};
+ghost use Rattle.am_plan.specs.Fingerprints.{fingerprint as fingerprint_of_term};
+ghost use Rattle.am_plan.specs.Names.{digit as digit_of, local_name as name_of_local, output_for as name_of_output, named_by, named_behind};
+ghost use Rattle.am_plan.specs.Numbering.{named_from, next_local as local_after};
 
+use crate::application::Application;
 use crate::call::{Callee, PlannedCall};
+use crate::fingerprint_index::FingerprintIndex;
 use crate::fingerprinting::fingerprint_of;
-use crate::places::{behind, note};
-use am_term::{Name, NoMemory, SortId, SymId, Term, copies, same};
+use crate::places::behind;
+use am_term::{Name, NoMemory, SortId, SymId, Term};
 use am_theory::Theory;
 use sqlite_items::Items;
 use std::alloc::Global;
-use std::collections::HashMap;
 
 /// Each term that the calls make, with the name of the first output whose answer it is, else with the next
 /// local's, which are numbered from 1; no memory too where a number would exceed 64 bits.
-pub fn named(
+#[tactic(auto, using(crate::proofs::Numbered::numbering))]
+pub fn named<'a>(
     alloc: Global,
     theory: &Theory,
     outputs: &[(Name, SortId)],
     answer: &[Term],
-    calls: &[PlannedCall],
-) -> Result<Items<(Name, Term)>, NoMemory>
-    ensures { IfOk result (λ ns. ns ≡ named_from 1 outputs.now answer.now (flat_map (terms_of_call theory.now) calls.now)) }
+    calls: &[PlannedCall<'a>],
+) -> Result<Items<(Name, Application<'a>)>, NoMemory>
+    ensures { IfOk result (λ ns. ns ≡ named_behind outputs.now answer.now [] (flat_map (terms_of_call theory.now) calls.now)) }
 {
-    let places = places_of(alloc, answer)?;
+    let index = index_of(alloc, answer)?;
     let wanted = Wanted {
         outputs,
         answer,
-        places: &places,
+        index: &index,
     };
     let mut names = Items::new(alloc);
     let mut k: usize = 1;
@@ -45,18 +47,18 @@ pub fn named(
 }
 
 // What the call makes, named from local k on, behind what is there; and the number of the next local.
-fn push_made(
+fn push_made<'a>(
     alloc: Global,
     theory: &Theory,
     wanted: &Wanted,
-    call: &PlannedCall,
+    call: &PlannedCall<'a>,
     k: usize,
-    names: &mut Items<(Name, Term)>,
+    names: &mut Items<(Name, Application<'a>)>,
 ) -> Result<usize, NoMemory>
     ensures { IfOk result (λ n. (ys : List Term) → names.new ++ named_from n wanted.now.outputs.now wanted.now.answer.now ys ≡ names.old ++ named_from k wanted.now.outputs.now wanted.now.answer.now (terms_of_call theory.now call.now ++ ys)) }
 {
-    let args = call.args.as_slice();
-    match call.callee {
+    let args = call.args();
+    match call.callee() {
         Callee::Routine(j) => match theory.routines.get(j) {
             Some(routine) => push_terms(alloc, wanted, routine.outputs.as_slice(), args, k, names),
             None => Ok(k),
@@ -69,21 +71,20 @@ fn push_made(
 }
 
 // The symbols at the terms, named from local k on, behind what is there; and the number of the next local.
-fn push_terms(
+fn push_terms<'a>(
     alloc: Global,
     wanted: &Wanted,
     symbols: &[SymId],
-    args: &[Term],
+    args: &'a [Term],
     k: usize,
-    names: &mut Items<(Name, Term)>,
+    names: &mut Items<(Name, Application<'a>)>,
 ) -> Result<usize, NoMemory>
     ensures { IfOk result (λ n. (ys : List Term) → names.new ++ named_from n wanted.now.outputs.now wanted.now.answer.now ys ≡ names.old ++ named_from k wanted.now.outputs.now wanted.now.answer.now (map (λ (f : SymId). App f args.now) symbols.now ++ ys)) }
 {
     let mut next = k;
     let mut rest = symbols;
     while let [f, behind @ ..] = rest {
-        let args = copies(alloc, args)?;
-        let term = Term::App { f: *f, args };
+        let term = Application::new(*f, args);
         let output = output_for(&term, wanted);
         let further = next_local(output, next)?;
         names.push(name_by(alloc, output, next, term)?)?;
@@ -104,13 +105,13 @@ fn next_local(output: Option<&Name>, k: usize) -> Result<usize, NoMemory>
 }
 
 // The term with the output's name, or with that of local k.
-fn name_by(
+fn name_by<'a>(
     alloc: Global,
     output: Option<&Name>,
     k: usize,
-    term: Term,
-) -> Result<(Name, Term), NoMemory>
-    ensures { IfOk result (λ e. e ≡ named_by (option_copied output.entry) k term) }
+    term: Application<'a>,
+) -> Result<(Name, Application<'a>), NoMemory>
+    ensures { IfOk result (λ e. e ≡ named_by (option_copied output.entry) k term.entry) }
 {
     match output {
         Some(name) => Ok((Name::new(alloc, name.as_str())?, term)),
@@ -118,36 +119,34 @@ fn name_by(
     }
 }
 
-/// Outputs with the terms of their answers, and the first place of each fingerprint among these.
+/// Outputs with the terms of their answers, and the index of these terms' fingerprints.
 #[derive(Clone, Copy)]
 pub struct Wanted<'a> {
     pub outputs: &'a [(Name, SortId)],
     pub answer: &'a [Term],
-    pub places: &'a HashMap<u64, usize>,
-    ghost agrees: { (p : ℕ) → get nat_eq places.now p ≡ place_from fingerprint_of_term p 0 answer.now },
+    pub index: &'a FingerprintIndex,
+    ghost agrees: { index.now ≡ map fingerprint_of_term answer.now },
 }
 
-/// The first place of each fingerprint among the terms.
-pub fn places_of(alloc: Global, terms: &[Term]) -> Result<HashMap<u64, usize>, NoMemory>
-    ensures { IfOk result (λ ps. (p : ℕ) → get nat_eq ps p ≡ place_from fingerprint_of_term p 0 terms.now) }
+/// The index of the terms' fingerprints.
+pub fn index_of(alloc: Global, terms: &[Term]) -> Result<FingerprintIndex, NoMemory>
+    ensures { IfOk result (λ index. index ≡ map fingerprint_of_term terms.now) }
 {
-    let mut places = HashMap::new(alloc);
-    let mut place: usize = 0;
+    let mut index = FingerprintIndex::new(alloc);
     let mut rest = terms;
     while let [term, behind @ ..] = rest {
-        note(fingerprint_of(term), place, &mut places)?;
-        place += 1;
+        index.push(fingerprint_of(term))?;
         rest = behind;
     }
-    Ok(places)
+    Ok(index)
 }
 
 /// The name of the first output whose answer is the term, if there is one. Takes no memory.
 #[tactic(auto, using(crate::proofs::FingerprintLaws::answering))]
-pub fn output_for<'a>(term: &Term, wanted: &Wanted<'a>) -> Option<&'a Name>
+pub fn output_for<'a>(term: &Application, wanted: &Wanted<'a>) -> Option<&'a Name>
     ensures { option_copied result ≡ name_of_output term.now wanted.now.outputs.now wanted.now.answer.now }
 {
-    match first_place(wanted, fingerprint_of(term)) {
+    match wanted.index.place(term.fingerprint()) {
         None => None,
         Some(place) => listed_output(
             term,
@@ -157,16 +156,9 @@ pub fn output_for<'a>(term: &Term, wanted: &Wanted<'a>) -> Option<&'a Name>
     }
 }
 
-// The place of the first term of the answer with this fingerprint.
-fn first_place(wanted: &Wanted, fingerprint: u64) -> Option<usize>
-    ensures { result ≡ place_from fingerprint_of_term fingerprint 0 wanted.now.answer.now }
-{
-    wanted.places.get(&fingerprint).copied()
-}
-
 // The name of the first output whose answer is the term, by comparing it with each.
 fn listed_output<'a>(
-    term: &Term,
+    term: &Application,
     outputs: &'a [(Name, SortId)],
     answer: &[Term],
 ) -> Option<&'a Name>
@@ -178,7 +170,7 @@ fn listed_output<'a>(
         match rest {
             [] => return None,
             [wanted, behind @ ..] => {
-                if same(term, wanted) {
+                if term.is_term(wanted) {
                     return Some(&output.0);
                 }
                 left = further;

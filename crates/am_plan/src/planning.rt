@@ -1,13 +1,14 @@
-ghost use Rattle.std.specs.Prelude.{◌≡◌, ◌++◌, IfOk, OnOk, map};
+ghost use Rattle.std.specs.Prelude.{◌≡◌, ◌++◌, [], IfOk, OnOk, map};
 ghost use Rattle.std.specs.List.{flat_map};
 ghost use Rattle.am_theory.specs.Facts.{WellFormed as TheoryFacts};
 ghost use Rattle.am_diagram.specs.Facts.{WellFormed as DiagramFacts};
 ghost use Rattle.am_diagram.specs.Listed.{names_of};
 ghost use Rattle.am_plan.specs.Answers.{IsAnswerFor};
 ghost use Rattle.am_plan.specs.Calls.{made_by};
-ghost use Rattle.am_plan.specs.Names.{locals, named_from};
+ghost use Rattle.am_plan.specs.Names.{locals, named_behind};
 ghost use Rattle.am_plan.specs.Plan.{IsPlan, arguments, dummy_decl, local_decl, functions_used, function_decl, statement_of as statement_for, copies};
 
+use crate::application::Application;
 use crate::call::PlannedCall;
 use crate::calling::calls;
 use crate::declaring::{functions, push_dummies, push_locals};
@@ -58,14 +59,14 @@ pub fn plan(
 
 // The terms that the calls make, with their names.
 #[tactic(auto, using(crate::proofs::UnitPlanned::planning))]
-fn names(
+fn names<'a>(
     alloc: Global,
     theory: &Theory,
     diagram: &Diagram,
     answer: &[Term],
-    calls: &[PlannedCall],
-) -> Result<NamedTerms, NoMemory>
-    ensures { IfOk result (λ ns. ns.entries ≡ named_from 1 diagram.now.outputs answer.now (flat_map (made_by theory.now) calls.now)) }
+    calls: &[PlannedCall<'a>],
+) -> Result<NamedTerms<'a>, NoMemory>
+    ensures { IfOk result (λ ns. ns.entries ≡ named_behind diagram.now.outputs answer.now [] (flat_map (made_by theory.now) calls.now)) }
 {
     let entries = named(alloc, theory, diagram.outputs.as_slice(), answer, calls)?;
     indexed(alloc, entries)
@@ -110,7 +111,7 @@ fn declarations(
     theory: &Theory,
     diagram: &Diagram,
     answer: &[Term],
-    names: &[(Name, Term)],
+    names: &[(Name, Application)],
     calls: &[PlannedCall],
 ) -> Result<Items<Decl>, NoMemory>
     ensures { IfOk result (λ es. es ≡ map (dummy_decl theory.now) (arguments diagram.now) ++ map (local_decl theory.now) (locals diagram.now.outputs answer.now names.now) ++ map (function_decl theory.now) (functions_used theory.now calls.now)) }

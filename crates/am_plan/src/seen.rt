@@ -1,86 +1,74 @@
-ghost use Rattle.std.specs.Prelude.{◌≡◌, ◌++◌, ◌∷◌, [], ℕ, OnOk, nat_eq};
-ghost use Rattle.std.specs.HashMap.{get};
+ghost use Rattle.std.specs.Prelude.{◌≡◌, ◌++◌, ◌∷◌, [], map, OnOk};
 ghost use Rattle.am_clause.specs.Distinct.{among};
-ghost use Rattle.am_plan.specs.declared.call.PlannedCall.{PlannedCall};
-ghost use Rattle.am_plan.specs.Calls.{call_with, same_callee as are_same_callees, same_call};
-ghost use Rattle.am_plan.specs.Fingerprints.{call_fingerprint as fingerprint_of_call, place_from};
+ghost use Rattle.am_plan.specs.Calls.{same_callee as are_same_callees, same_call};
+ghost use Rattle.am_plan.specs.Fingerprints.{call_fingerprint as fingerprint_of_call};
 
 use crate::call::{Callee, PlannedCall};
-use crate::fingerprinting::call_fingerprint;
-use crate::places::{behind, note};
-use am_term::{NoMemory, Term, same_terms};
+use crate::fingerprint_index::FingerprintIndex;
+use crate::places::behind;
+use am_term::{NoMemory, same_terms};
 use sqlite_items::Items;
 use std::alloc::Global;
-use std::collections::HashMap;
 
-/// The calls so far, and the place of the first call with each fingerprint: so a call is compared with those of
-/// its own fingerprint alone, of which there is hardly ever another.
+/// The calls so far, with an index of their fingerprints.
 #[derive(Drop)]
-pub struct Seen {
-    pub calls: Items<PlannedCall>,
-    places: HashMap<u64, usize>,
-    ghost agrees: { (p : ℕ) → get nat_eq places p ≡ place_from fingerprint_of_call p 0 calls },
+pub struct Seen<'a> {
+    pub calls: Items<PlannedCall<'a>>,
+    index: FingerprintIndex,
+    ghost agrees: { index ≡ map fingerprint_of_call calls },
 }
 
-impl Seen {
+impl<'a> Seen<'a> {
     /// No calls. Takes no memory.
-    pub fn new(alloc: Global) -> Seen
+    pub fn new(alloc: Global) -> Seen<'a>
         ensures { result.calls ≡ [] }
     {
         Seen {
             calls: Items::new(alloc),
-            places: HashMap::new(alloc),
+            index: FingerprintIndex::new(alloc),
         }
     }
 
     /// The calls.
-    pub fn into_calls(self) -> Items<PlannedCall>
-        ensures { result ≡ self.calls }
+    pub fn into_calls(self) -> Items<PlannedCall<'a>>
+        ensures { result ≡ self.entry.calls }
     {
-        let Seen { calls, places: _ } = self;
+        let Seen { calls, index: _ } = self;
         calls
     }
 }
 
 /// The call is behind those before.
-pub fn add(seen: &mut Seen, call: PlannedCall) -> Result<(), NoMemory>
-    ensures { OnOk result (seen.new.calls ≡ seen.old.calls ++ call ∷ []) }
+pub fn add<'a>(seen: &mut Seen<'a>, call: PlannedCall<'a>) -> Result<(), NoMemory>
+    ensures { OnOk result (seen.new.calls ≡ seen.old.calls ++ call.entry ∷ []) }
 {
-    let fingerprint = call_fingerprint(call.callee, call.args.as_slice());
-    let place = seen.calls.len();
+    let fingerprint = call.fingerprint();
     seen.calls.push(call)?;
-    if note(fingerprint, place, &mut seen.places).is_err() {
+    if seen.index.push(fingerprint).is_err() {
         seen.calls.pop();
         return Err(NoMemory);
     }
     Ok(())
 }
 
-/// Whether the call at these terms is one of the calls. Takes no memory.
+/// Whether the call is one of the calls. Takes no memory.
 #[tactic(auto, using(crate::proofs::FingerprintLaws::seeing))]
-pub fn is_called(callee: Callee, args: &[Term], seen: &Seen) -> bool
-    ensures { result ≡ among same_call (call_with args.now callee) seen.now.calls }
+pub fn is_called(call: &PlannedCall, seen: &Seen) -> bool
+    ensures { result ≡ among same_call call.now seen.now.calls }
 {
-    match first_place(seen, call_fingerprint(callee, args)) {
+    match seen.index.place(call.fingerprint()) {
         None => false,
-        Some(place) => is_listed(callee, args, behind(seen.calls.as_slice(), place)),
+        Some(place) => is_listed(call, behind(seen.calls.as_slice(), place)),
     }
 }
 
-// The place of the first call with this fingerprint.
-fn first_place(seen: &Seen, fingerprint: u64) -> Option<usize>
-    ensures { result ≡ place_from fingerprint_of_call fingerprint 0 seen.now.calls }
-{
-    seen.places.get(&fingerprint).copied()
-}
-
-// Whether the call at these terms is one of the calls, by comparing it with each.
-fn is_listed(callee: Callee, args: &[Term], calls: &[PlannedCall]) -> bool
-    ensures { result ≡ among same_call (call_with args.now callee) calls.now }
+// Whether the call is one of the calls, by comparing it with each.
+fn is_listed(call: &PlannedCall, calls: &[PlannedCall]) -> bool
+    ensures { result ≡ among same_call call.now calls.now }
 {
     let mut rest = calls;
-    while let [call, behind @ ..] = rest {
-        if same_callee(callee, call.callee) && same_terms(args, call.args.as_slice()) {
+    while let [other, behind @ ..] = rest {
+        if same_callee(call.callee(), other.callee()) && same_terms(call.args(), other.args()) {
             return true;
         }
         rest = behind;

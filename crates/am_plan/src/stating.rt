@@ -10,10 +10,12 @@ ghost use Rattle.am_plan.specs.Calls.{listed, made_by};
 ghost use Rattle.am_plan.specs.Names.{name_of as name_under};
 ghost use Rattle.am_plan.specs.Plan.{written_value as written, operand_for as operand_of, routine_call as call_of_routine, function_call as call_of_function, statement_of as statement_for, copy_name, copy_to as copied_to, is_set as is_name_set, copies as copies_of};
 
+use crate::application::Application;
 use crate::call::{Callee, PlannedCall};
-use crate::lookups::{copy_of, is_array, literal_of};
+use crate::lookups::{is_array, literal_of};
 use crate::named_terms::{NamedTerms, name_at, name_of};
 use am_diagram::Diagram;
+use am_exec::copy_of;
 use am_fortran::{Operand, Statement};
 use am_term::{Name, NoMemory, SortId, SymId, Term};
 use am_theory::{FortranFunction, LitValue, Routine, Theory};
@@ -102,7 +104,7 @@ fn push_names(
 {
     let mut rest = symbols;
     while let [f, behind @ ..] = rest {
-        let name = Name::new(alloc, name_at(names, *f, args))?;
+        let name = Name::new(alloc, name_at(names, &Application::new(*f, args)))?;
         made.push(Operand::Name(name))?;
         rest = behind;
     }
@@ -120,7 +122,7 @@ pub fn statement_of(
 ) -> Result<Option<Statement>, NoMemory>
     ensures { IfOk result (λ s. listed s ≡ statement_for theory.now diagram.now names.now.entries call.now) }
 {
-    match call.callee {
+    match call.callee() {
         Callee::Routine(k) => match theory.routines.get(k) {
             Some(routine) => Ok(Some(routine_call(alloc, theory, diagram, names, call, routine)?)),
             None => Ok(None),
@@ -145,7 +147,7 @@ fn routine_call(
     requires { made_by theory.now call.now ≡ map (λ (f : SymId). App f call.now.args) routine.now.outputs }
     ensures { IfOk result (λ s. s ∷ [] ≡ call_of_routine theory.now diagram.now names.now.entries call.now (Some routine.now)) }
 {
-    let inputs = call.args.as_slice();
+    let inputs = call.args();
     let mut args = operands_for(alloc, theory, diagram, names, inputs)?;
     push_names(alloc, names, routine.outputs.as_slice(), inputs, &mut args)?;
     let routine = Name::new(alloc, routine.name.as_str())?;
@@ -163,8 +165,9 @@ fn function_call(
     requires { made_by theory.now call.now ≡ App function.now.symbol call.now.args ∷ [] }
     ensures { IfOk result (λ s. s ∷ [] ≡ call_of_function theory.now diagram.now names.now.entries call.now (Some function.now)) }
 {
-    let inputs = call.args.as_slice();
-    let target = Name::new(alloc, name_at(names, function.symbol, inputs))?;
+    let inputs = call.args();
+    let value = Application::new(function.symbol, inputs);
+    let target = Name::new(alloc, name_at(names, &value))?;
     let args = operands_for(alloc, theory, diagram, names, inputs)?;
     let function = Name::new(alloc, function.name.as_str())?;
     Ok(Statement::Apply {
@@ -227,7 +230,7 @@ pub fn push_copies(
 }
 
 // Whether a call sets the name. Takes no memory.
-fn is_set(names: &[(Name, Term)], name: &Name) -> bool
+fn is_set(names: &[(Name, Application)], name: &Name) -> bool
     ensures { result ≡ is_name_set names.now name.now }
 {
     let mut rest = names;

@@ -94,7 +94,7 @@ fn once(rt: HostRuntime) -> Result<(), Fail> {
 
 fn callees_of(calls: &[PlannedCall]) -> (usize, Option<Callee>, Option<Callee>) {
     match calls {
-        [first, second, ..] => (calls.len(), Some(first.callee), Some(second.callee)),
+        [first, second, ..] => (calls.len(), Some(first.callee()), Some(second.callee())),
         [_] => (1, None, None),
         [] => (0, None, None),
     }

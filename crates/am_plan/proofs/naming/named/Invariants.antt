@@ -1,7 +1,7 @@
 use Rattle.std.proofs.Common.{◌≡◌, ◌++◌, length}
 use Rattle.std.specs.List.{flat_map}
 use Rattle.am_plan.specs.Calls.{made_by}
-use Rattle.am_plan.specs.Names.{named_from}
+use Rattle.am_plan.specs.Numbering.{named_from}
 use Rattle.am_plan.proofs.naming.named.Given as goal
 
 -- what was named, with what is left, is all

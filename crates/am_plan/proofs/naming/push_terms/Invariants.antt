@@ -2,7 +2,7 @@ use Rattle.std.proofs.Common.{◌≡◌, ◌++◌, List, length, map}
 use Rattle.am_term.specs.declared.id.SymId.{SymId}
 use Rattle.am_term.specs.declared.term.Term.{Term}
 use Rattle.am_term.specs.declared.term.Term.TheVariants.{App}
-use Rattle.am_plan.specs.Names.{named_from}
+use Rattle.am_plan.specs.Numbering.{named_from}
 use Rattle.am_plan.proofs.naming.push_terms.Given as goal
 
 -- what was named, with what is left, is all, whatever stands behind it

@@ -1,0 +1,11 @@
+use Rattle.std.proofs.Common.{◌≡◌, ◌++◌, length, map}
+use Rattle.am_plan.specs.Names.{Named}
+use Rattle.am_plan.specs.Fingerprints.{fingerprint}
+use Rattle.am_plan.proofs.named_terms.index_of.Given as goal
+
+-- what was made, with what is left, is all
+abbrev pub invariant-loop-rest : goal.invariant-loop-rest
+invariant-loop-rest l = l.index ++ map (λ (e : Named). fingerprint e.1) l.rest ≡ map (λ (e : Named). fingerprint e.1) l.entries
+
+abbrev pub decreases-loop-rest : goal.decreases-loop-rest
+decreases-loop-rest l = length l.rest
