@@ -5,7 +5,7 @@ use Rattle.std.proofs.lemmas.Bool.Decides.{nat_tests}
 use Rattle.am_term.specs.declared.id.SortId.{SortId}
 use Rattle.am_term.specs.declared.signature.Signature.{Signature}
 use Rattle.am_term.specs.Sorts.{same_sort, parent, at_parent, fits, root}
-use Rattle.am_term.proofs.Forest.{fits-step, root-step, fits-same, fits-trans, fits-antisym, fits-comparable, fits-akin, akin-same, akin-sym, akin-trans}
+use Rattle.am_term.proofs.Forest.{fits-step, root-step, fits-same, fits-trans, fits-antisym, fits-comparable}
 
 -- one step up, where the sorts differ
 pub fits-up : (sig : Signature) (s t p : SortId) → parent sig s ≡ Some p → same_sort s t ≡ false → fits sig s t ≡ fits sig p t
@@ -28,5 +28,3 @@ root-top sig s is = root-step sig s ∙ ap (λ o. at_parent o (root sig) s) is
 pub ruleset climbs = (common_steps, nat_tests, fits-up, fits-top, fits-here, root-up, root-top)
 
 pub ruleset laws_of_fits = (fits-step, fits-same, fits-trans, fits-antisym, fits-comparable)
-
-pub ruleset laws_of_akin = (akin-same, akin-sym, akin-trans, fits-akin)

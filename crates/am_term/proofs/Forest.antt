@@ -160,3 +160,23 @@ module _ (sig : Signature) where
 
   pub akin-trans : (s t u : SortId) → akin sig s t ≡ true → akin sig t u ≡ true → akin sig s u ≡ true
   akin-trans s t u e f = akin-of s u (akin-is s t e ∙ akin-is t u f)
+
+  -- a sort fits its root
+  fits-root : (n : ℕ) (s : SortId) → s.0 < n → fits sig s (root sig s) ≡ true
+  fits-root zero s h = absurd (omega arith)
+  fits-root (suc n) s h = by (parent sig s) refl (λ p l. fits-root n p l)
+    where
+      by : (o : Option SortId) → parent sig s ≡ o → ((p : SortId) → p.0 < n → fits sig p (root sig p) ≡ true) → fits sig s (root sig s) ≡ true
+      by None is k = ap (fits sig s) (root-step s ∙ ap (λ o. at_parent o (root sig) s) is) ∙ fits-same s
+      by (Some p) is k = let l = parent-lower s p is in ap (fits sig s) (root-above s p is) ∙ fits-above s (root sig p) p is (k p (omega arith))
+
+  -- some sort stands above both
+  pub akin-joined : (s t : SortId) → akin sig s t ≡ true → (u : SortId) × (fits sig s u ≡ true) × (fits sig t u ≡ true)
+  akin-joined s t e = (root sig s, fits-root (suc s.0) s (omega arith), ap (fits sig t) (akin-is s t e) ∙ fits-root (suc t.0) t (omega arith))
+
+  pub akin-joins : (s t u : SortId) → fits sig s u ≡ true → fits sig t u ≡ true → akin sig s t ≡ true
+  akin-joins s t u e f = akin-of s t (root-to (suc s.0) s u (omega arith) e ∙ sym (root-to (suc t.0) t u (omega arith) f))
+
+  pub akin-rooted : (s t : SortId) → akin sig s t ≡ same_sort (root sig s) (root sig t)
+  unfolding akin akin_in root
+  akin-rooted s t = refl

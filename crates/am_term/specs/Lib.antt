@@ -5,8 +5,10 @@ pub mod InductFormula
 pub mod Instance
 pub mod NameLists
 pub mod Names
+pub mod Parts
 pub mod Place
 pub mod Same
+pub mod SortedFormula
 pub mod Sorting
 pub mod Sorts
 pub mod Span

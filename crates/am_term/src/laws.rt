@@ -5,7 +5,7 @@ ghost use Rattle.am_term.specs.declared.term.Term.{Term};
 ghost use Rattle.am_term.specs.Instance.{instance, instances};
 ghost use Rattle.am_term.specs.Place.{place, replaced, AreDisjoint};
 ghost use Rattle.am_term.specs.Sorting.{sort_of, term_fits, KeepsSorts};
-ghost use Rattle.am_term.specs.Sorts.{same_sort, parent, at_parent, fits, akin};
+ghost use Rattle.am_term.specs.Sorts.{same_sort, parent, at_parent, fits, root, akin};
 ghost use Rattle.am_term.specs.Span.{span};
 ghost use Rattle.am_term.specs.Variables.{occurs, is_variable};
 ghost use Rattle.am_term.specs.Weight.{nodes};
@@ -21,9 +21,14 @@ pub fn law_of_fits()
     ensures comparable { (sig : Signature) (s t u : SortId) → IsTrue (fits sig s t) → IsTrue (fits sig s u) → IsTrue (fits sig t u) ⊎ IsTrue (fits sig u t) }
 {}
 
-/// Being akin is an equivalence, and a sort is akin to each that it fits.
-#[tactic(auto, using(crate::proofs::Climbs::laws_of_akin))]
+/// Two sorts are akin exactly where some sort stands above both of them, and that is where they stand
+/// below one root. The root of a sort is that of its parent, and a sort without a parent is its own. So
+/// being akin is an equivalence, and a sort is akin to each that it fits.
 pub fn law_of_akin()
+    ensures root { (sig : Signature) (s : SortId) → root sig s ≡ at_parent (parent sig s) (root sig) s }
+    ensures rooted { (sig : Signature) (s t : SortId) → akin sig s t ≡ same_sort (root sig s) (root sig t) }
+    ensures joined { (sig : Signature) (s t : SortId) → IsTrue (akin sig s t) → (u : SortId) × IsTrue (fits sig s u) × IsTrue (fits sig t u) }
+    ensures joins { (sig : Signature) (s t u : SortId) → IsTrue (fits sig s u) → IsTrue (fits sig t u) → IsTrue (akin sig s t) }
     ensures reflexive { (sig : Signature) (s : SortId) → IsTrue (akin sig s s) }
     ensures symmetric { (sig : Signature) (s t : SortId) → IsTrue (akin sig s t) → IsTrue (akin sig t s) }
     ensures transitive { (sig : Signature) (s t u : SortId) → IsTrue (akin sig s t) → IsTrue (akin sig t u) → IsTrue (akin sig s u) }

@@ -13,8 +13,6 @@ mod kind;
 mod laws;
 mod name;
 mod places;
-#[cfg(test)]
-mod rows;
 mod signature;
 mod sorting;
 mod spelling;
