@@ -10,8 +10,6 @@ mod order;
 mod plain;
 mod precedence;
 mod sides;
-#[cfg(test)]
-mod tests;
 
 pub use laws::{law_of_cases, law_of_contexts, law_of_instances, law_of_order, law_of_parts};
 pub use order::greater;

@@ -25,6 +25,3 @@ pub use laws::{
 pub use limits::TextLimits;
 pub use reading::read_forms;
 pub use writing::write_form;
-
-#[cfg(test)]
-mod tests;

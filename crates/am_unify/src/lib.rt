@@ -10,8 +10,6 @@ mod laws;
 mod matching;
 mod occurring;
 mod opening;
-#[cfg(test)]
-mod rows;
 mod solving;
 mod substitution;
 
