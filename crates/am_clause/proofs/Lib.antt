@@ -1,12 +1,19 @@
 pub mod Bijections
 pub mod Bounds
 pub mod Clauses
+pub mod Computing
+pub mod Copies
 pub mod Excesses
 pub mod Fewer
 pub mod Firsts
+pub mod KeptRows
 pub mod Lengths
+pub mod MadeNumbers
+pub mod Marking
 pub mod Members
 pub mod Merges
+pub mod NumberedRows
+pub mod Occurring
 pub mod Opposites
 pub mod Parts
 pub mod Passes
@@ -14,3 +21,4 @@ pub mod Places
 pub mod Renames
 pub mod Sizes
 pub mod Tallies
+pub mod Walked

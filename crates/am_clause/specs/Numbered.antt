@@ -1,10 +1,13 @@
 -- What numbering by first occurrence is: words of its laws.
-use Rattle.std.specs.Prelude.{◌≡◌, ◌<◌, ℕ, List, map, Some, IsTrue, slice_get}
+use Rattle.std.specs.Prelude.{◌≡◌, ◌<◌, ℕ, List, map, Some, IsTrue, slice_get, ◌++◌}
 use Rattle.am_term.specs.declared.id.SortId.{SortId}
 use Rattle.am_clause.specs.declared.clause.Clause.{Clause}
-use Rattle.am_clause.specs.Distinct.{among}
-use Rattle.am_clause.specs.Variables.{Variable, same_variable, in_clause, variables}
+use Rattle.am_clause.specs.Distinct.{among, distinct}
+use Rattle.am_clause.specs.Variables.{Variable, same_variable, in_clause, variables, occurrences_all}
 use Rattle.am_clause.specs.Renaming.{Numbers, renamed_clause}
+use Rattle.std.specs.List.{flat_map}
+use Rattle.am_term.specs.declared.term.Term.{Term}
+use Rattle.am_clause.specs.declared.row.Row.{Row}
 
 -- the variable occurs in the clause, in a literal or in the answer
 abbrev pub Occurs : Variable → Clause → Type 0
@@ -30,3 +33,15 @@ pub record AreAlike (c d : Clause) : Type 0 where
 -- the sorts of the different variables, in order
 abbrev pub sorts_in : Clause → List SortId
 sorts_in c = map (λ (v : Variable). v.1) (variables c)
+
+-- the same of a list of occurrences
+abbrev pub AreNumbered : List Variable → Type 0
+AreNumbered vs = (k : ℕ) (v : Variable) → slice_get (distinct same_variable vs) k ≡ Some v → v.0 ≡ k
+
+-- the variables of a clause with lists of terms: those of the literals, of the answer, then of the lists
+abbrev pub in_made : List (List Term) → Clause → List Variable
+in_made with c = in_clause c ++ flat_map occurrences_all with
+
+-- through the clause of the row and then its lists of terms
+abbrev pub IsNumberedRow : Row → Type 0
+IsNumberedRow r = AreNumbered (in_made r.with r.clause)
