@@ -1,4 +1,15 @@
+pub mod Asked
+pub mod Assigned
+pub mod Bound
+pub mod Coincidence
 pub mod Columns
+pub mod Inputless
+pub mod Instanced
 pub mod Meanings
-pub mod Replacing
+pub mod Merging
+pub mod Pinned
 pub mod Renamings
+pub mod Renumbered
+pub mod Replaced
+pub mod Replacing
+pub mod Started

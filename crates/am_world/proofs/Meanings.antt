@@ -1,6 +1,5 @@
 -- Members of sorts, and values of terms and of their instances.
-use Rattle.std.proofs.Common.{◌≡◌, ◌∙◌, ◌+◌, ◌<◌, ◌≤◌, ◌&&◌, ℕ, zero, suc, Bool, true, false, refl, sym, ap, subst, arith, Option, Some, None, List, [], ◌∷◌, map, IsTrue, slice_get, slice_index, slice_index_or, nat_lt, if◌then◌else◌, length, true≢false}
-use Rattle.std.proofs.lemmas.Grind.{common_steps}
+use Rattle.std.proofs.Common.{◌≡◌, ◌∙◌, ◌<◌, ◌&&◌, ℕ, zero, suc, Bool, true, false, refl, sym, subst, arith, Option, Some, None, List, [], ◌∷◌, IsTrue, slice_get, slice_index, nat_lt, if◌then◌else◌, length, true≢false}
 use Rattle.std.proofs.lemmas.Bool.Decides.{nat_tests}
 use Rattle.am_term.specs.declared.id.SortId.{SortId}
 use Rattle.am_term.specs.declared.id.SymId.{SymId}
@@ -10,9 +9,9 @@ use Rattle.am_term.specs.declared.term.Term.{Term}
 use Rattle.am_term.specs.declared.term.Term.TheVariants.{Var, In, App}
 use Rattle.am_term.specs.Induct.{term_induct}
 use Rattle.am_term.specs.Instance.{instance, instances, instance-Var, instance-In, instance-App}
-use Rattle.am_term.specs.Sorts.{fits, parent}
+use Rattle.am_term.specs.Sorts.{fits}
 use Rattle.am_term.specs.Sorting.{sort_of, sorts_of, fits_place, fit_places, result_at, sort_of-Var, sort_of-In, sort_of-App}
-use Rattle.am_term.proofs.Forest.{parent-lower, fits-way, Way, here, above}
+use Rattle.am_term.proofs.Forest.{parent-lower, fits-way, here, above}
 use Rattle.am_world.specs.Interpretation.{Interpretation, IsWorld, Members, GivesMember}
 use Rattle.am_world.specs.Value.{Assignment, IsAssignment, value, values, through, value-Var, value-In, value-App}
 

@@ -1,12 +1,10 @@
 -- A part of a term replaced by one of the same value.
-use Rattle.std.proofs.Common.{◌≡◌, ◌∙◌, ℕ, zero, suc, refl, sym, ap, Option, Some, None, List, [], ◌∷◌, map, set, slice_get}
-use Rattle.am_term.specs.declared.id.SortId.{SortId}
-use Rattle.am_term.specs.declared.id.SymId.{SymId}
+use Rattle.std.proofs.Common.{◌≡◌, ◌∙◌, ℕ, zero, suc, refl, sym, ap, Some, List, [], ◌∷◌, set, slice_get}
 use Rattle.am_term.specs.declared.term.Term.{Term}
-use Rattle.am_term.specs.declared.term.Term.TheVariants.{Var, In, App}
+use Rattle.am_term.specs.declared.term.Term.TheVariants.{Var, In}
 use Rattle.am_term.specs.Induct.{term_cases}
 use Rattle.am_term.specs.Place.{member, with_member, args_of, with_arg, place, replaced, args_of-Var, args_of-In, args_of-App, with_arg-App}
-use Rattle.am_term.proofs.Parts.{Inside, inside, place-step}
+use Rattle.am_term.proofs.Parts.{inside, place-step}
 use Rattle.am_world.specs.Interpretation.{Interpretation}
 use Rattle.am_world.specs.Value.{Assignment, value, values, value-App}
 

@@ -1,6 +1,6 @@
 -- Interpretations of a signature: the textbook's many-sorted first-order logic, with whole numbers as
 -- members. Equality is identity of numbers.
-use Rattle.std.specs.Prelude.{◌≡◌, ◌==◌, ◌<◌, ℕ, Bool, true, false, Option, Some, None, List, [], ◌∷◌, length, slice_get, IsTrue}
+use Rattle.std.specs.Prelude.{◌≡◌, ◌==◌, ◌<◌, ℕ, Bool, true, Option, Some, None, List, [], ◌∷◌, length, slice_get, IsTrue}
 use Rattle.am_term.specs.declared.id.SortId.{SortId}
 use Rattle.am_term.specs.declared.id.SymId.{SymId}
 use Rattle.am_term.specs.declared.symbol.Symbol.{Symbol}

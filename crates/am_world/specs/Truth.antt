@@ -1,5 +1,5 @@
 -- Which formulas without quantifiers are true, and which interpretations are models.
-use Rattle.std.specs.Prelude.{◌≡◌, ◌&&◌, ◌||◌, ◌==◌, ℕ, Bool, true, false, not, List, [], ◌∷◌, IsTrue}
+use Rattle.std.specs.Prelude.{◌||◌, ℕ, Bool, true, false, not, List, [], IsTrue}
 use Rattle.std.specs.List.{list_all, list_any, AllByRecursion}
 use Rattle.am_term.specs.declared.signature.Signature.{Signature}
 use Rattle.am_term.specs.declared.term.Formula.{Formula}
