@@ -1,0 +1,10 @@
+pub mod Bindings
+pub mod Faultless
+pub mod Lists
+pub mod Proved
+pub mod Ruling
+pub mod SortedInstances
+pub mod SortedMade
+pub mod Sound
+pub mod Stepping
+pub mod WalkedCode
