@@ -1,0 +1,10 @@
+use Rattle.am_rules.specs.Alone.{sides}
+use Rattle.am_rules.specs.Resolution.{atom_at}
+use Rattle.am_rules.proofs.Alones.{reflexion-few}
+use Rattle.am_rules.proofs.FactorCode.{found-bindings}
+use Rattle.am_rules.proofs.alone.reflexion.Goals as goal
+
+pub made_alone-requires-clause-few : goal.made_alone-requires-clause-few
+made_alone-requires-clause-few c = reflexion-few c.args.ctx.now.sig.now c.args.ctx.now.ins.now c.args.p.now c.requires.numbered c.args.i c.requires.sorted c.requires.few c.in-Some-2.found.0
+    (found-bindings c.args.ctx.now.sig.now c.args.ctx.now.ins.now (sides (atom_at c.args.i c.args.p.now)) c.in_ok-pairs.field-0 c.in-Some.pairs c.as_slice.result.now c.in_ok-found-in-Some.field-0 c.in-Some-2.found
+    c.in_ok-pairs.ensures c.in-Some.is c.as_slice.ensures c.in_ok-found-in-Some.ensures.textbook c.in-Some-2.is)

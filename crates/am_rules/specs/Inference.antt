@@ -1,0 +1,74 @@
+-- What an inference is: what a rule makes of its parents by most general bindings, numbered.
+use Rattle.std.specs.Prelude.{◌≡◌, ◌⊎◌, List, [], ◌∷◌, Option, Some, None, IsTrue, IsFalse}
+use Rattle.am_term.specs.declared.id.SortId.{SortId}
+use Rattle.am_term.specs.declared.signature.Signature.{Signature}
+use Rattle.am_term.specs.declared.term.Term.{Term}
+use Rattle.am_clause.specs.declared.clause.Clause.{Clause}
+use Rattle.am_clause.specs.declared.row.Made.{Made}
+use Rattle.am_clause.specs.declared.row.Row.{Row}
+use Rattle.am_clause.specs.declared.row.Rule.{Rule}
+use Rattle.am_clause.specs.SortedClause.{is_sorted_clause}
+use Rattle.am_clause.specs.Numbered.{AreNumbered}
+use Rattle.am_clause.specs.NumberedMade.{variables_in}
+use Rattle.am_clause.specs.MostGeneral.{AreMostGeneral}
+use Rattle.am_clause.specs.Rules.{OneParent, TwoParents}
+use Rattle.am_clause.specs.Steps.{IsMadeOfOne, IsMadeOfTwo}
+
+-- a conclusion with its lists as the row of a proof
+abbrev pub row_of : Rule → Made → Row
+row_of rule m = record { clause = m.clause; rule = rule; with = m.with }
+
+module _ (sig : Signature) (ins : List SortId) (rule : OneParent) (p : Clause) where
+  -- lists of terms with which the rule makes a clause of its parent
+  pub record TakesOne (ws : List (List Term)) : Type 0 where
+    pub conclusion : Clause
+    pub first : List Term
+    pub bound_by : ws ≡ first ∷ []
+    pub made : IsMadeOfOne sig ins rule p first conclusion
+
+  -- a conclusion with its lists, of which all other lists that the rule takes are instances
+  pub record IsInferenceOfOne (m : Made) : Type 0 where
+    pub first : List Term
+    pub bound_by : m.with ≡ first ∷ []
+    pub made : IsMadeOfOne sig ins rule p first m.clause
+    pub general : AreMostGeneral sig ins TakesOne m.with
+    pub numbered : AreNumbered (variables_in m)
+
+  -- an inference, and none exactly where the rule takes no lists
+  abbrev pub AnswersOne : Option Made → Type 0
+  AnswersOne None = (ws : List (List Term)) → TakesOne ws → ⊥
+  AnswersOne (Some m) = IsInferenceOfOne m
+
+module _ (sig : Signature) (ins : List SortId) (rule : TwoParents) (p q : Clause) where
+  -- lists of terms with which the rule makes a clause of its parents
+  pub record TakesTwo (ws : List (List Term)) : Type 0 where
+    pub conclusion : Clause
+    pub first : List Term
+    pub second : List Term
+    pub bound_by : ws ≡ first ∷ second ∷ []
+    pub made : IsMadeOfTwo sig ins rule p first q second conclusion
+
+  -- a conclusion with its lists, of which all other lists that the rule takes are instances
+  pub record IsInferenceOfTwo (m : Made) : Type 0 where
+    pub first : List Term
+    pub second : List Term
+    pub bound_by : m.with ≡ first ∷ second ∷ []
+    pub made : IsMadeOfTwo sig ins rule p first q second m.clause
+    pub general : AreMostGeneral sig ins TakesTwo m.with
+    pub numbered : AreNumbered (variables_in m)
+
+  -- an inference, and none exactly where the rule takes no lists
+  abbrev pub AnswersTwo : Option Made → Type 0
+  AnswersTwo None = (ws : List (List Term)) → TakesTwo ws → ⊥
+  AnswersTwo (Some m) = IsInferenceOfTwo m
+
+  -- the inference has a conclusion that isn't well sorted
+  pub record InfersUnsorted : Type 0 where
+    pub inferred : Made
+    pub inference : IsInferenceOfTwo inferred
+    pub unsorted : IsFalse (is_sorted_clause sig ins inferred.clause)
+
+  -- a well sorted inference, and none exactly where the rule takes no lists or its conclusion isn't well sorted
+  abbrev pub AnswersSorted : Option Made → Type 0
+  AnswersSorted None = ((ws : List (List Term)) → TakesTwo ws → ⊥) ⊎ InfersUnsorted
+  AnswersSorted (Some m) = IsInferenceOfTwo m × IsTrue (is_sorted_clause sig ins m.clause)

@@ -1,0 +1,14 @@
+pub mod Most
+pub mod Parts
+pub mod Row
+pub mod Made
+pub mod Binding
+pub mod Resolution
+pub mod Asked
+pub mod Solving
+pub mod Replacing
+pub mod Paramodulation
+pub mod Alone
+pub mod Inference
+pub mod Closing
+pub mod Chosen

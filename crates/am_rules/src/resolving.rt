@@ -1,0 +1,172 @@
+ghost use Rattle.std.specs.Prelude.{◌≡◌, ◌<◌, ◌∷◌, [], ℕ, Some, IfOk, IsTrue, length};
+ghost use Rattle.am_clause.specs.Numbered.{IsNumbered};
+ghost use Rattle.am_clause.specs.Variables.{variables};
+ghost use Rattle.am_unify.specs.Unifier.{bindings_of};
+ghost use Rattle.am_rules.specs.Asked.{asked};
+ghost use Rattle.am_rules.specs.Inference.{AnswersTwo};
+ghost use Rattle.am_rules.specs.Parts.{answer_under};
+ghost use Rattle.am_rules.specs.Resolution.{atom_at, resolvent};
+ghost use Rattle.am_rules.specs.Row.{row, variables_of};
+ghost use Rattle.am_rules.specs.Solving.{solved_apart, made_of as is_made_of, resolution as is_resolution};
+ghost use Rattle.am_clause.specs.SortedClause.{is_sorted_clause};
+ghost use Rattle.am_clause.specs.Rules.{shared, resolve as resolve_rule};
+
+use crate::asking::{asked_apart, images_of};
+use crate::instancing::{instance_of_answer, instances_without, literal_at};
+use crate::kinds::suits_resolve;
+use crate::rows::renumber_made;
+use am_clause::{Clause, Made, clause_variables, merge};
+use am_term::{Ctx, NoMemory, Term};
+use am_unify::{Subst, unify};
+use sqlite_items::Items;
+use std::alloc::Global;
+
+/// The two clauses, of which the first has no variable of the second, resolved by atom i of the first and atom j of
+/// the second, places from 1: the row made by most general bindings that make the two atoms one, and the answers if both
+/// have one. None exactly where no well-sorted bindings do.
+pub fn resolve(
+    alloc: Global,
+    ctx: &Ctx,
+    p: &Clause,
+    i: u32,
+    q: &Clause,
+    j: u32,
+) -> Result<Option<Made>, NoMemory>
+    requires p_numbered { IsNumbered p.now }
+    requires q_numbered { IsNumbered q.now }
+    requires p_sorted { IsTrue (is_sorted_clause ctx.now.sig.now ctx.now.ins.now p.now) }
+    requires q_sorted { IsTrue (is_sorted_clause ctx.now.sig.now ctx.now.ins.now q.now) }
+    requires p_few { length (variables p.now) < 1000000000 }
+    requires q_few { length (variables q.now) < 1000000000 }
+    ensures { IfOk result (λ o. AnswersTwo ctx.now.sig.now ctx.now.ins.now (resolve_rule i j) p.now q.now o) }
+{
+    let is_suited = suits_resolve(p, i, q, j);
+    if !is_suited {
+        return Ok(None);
+    }
+    resolution(alloc, ctx, p, i, q, j)
+}
+
+// What the definition by unification gives.
+#[tactic(auto, using(crate::proofs::Resolved::resolving))]
+fn resolution(
+    alloc: Global,
+    ctx: &Ctx,
+    p: &Clause,
+    i: u32,
+    q: &Clause,
+    j: u32,
+) -> Result<Option<Made>, NoMemory>
+    requires p_numbered { IsNumbered p.now }
+    requires q_numbered { IsNumbered q.now }
+    requires p_sorted { IsTrue (is_sorted_clause ctx.now.sig.now ctx.now.ins.now p.now) }
+    requires q_sorted { IsTrue (is_sorted_clause ctx.now.sig.now ctx.now.ins.now q.now) }
+    requires p_few { length (variables p.now) < 1000000000 }
+    requires q_few { length (variables q.now) < 1000000000 }
+    ensures { IfOk result (λ o. o ≡ is_resolution ctx.now.sig.now ctx.now.ins.now p.now i q.now j) }
+{
+    let p_variables = clause_variables(alloc, p)?;
+    let q_variables = clause_variables(alloc, q)?;
+    let k = p_variables.len() as u32;
+    match solution(alloc, ctx, p, i, q, j, k)? {
+        Some(found) => {
+            let left = images_of(alloc, found.0.as_slice(), 0, p_variables.as_slice())?;
+            let right = images_of(alloc, found.0.as_slice(), k, q_variables.as_slice())?;
+            Ok(Some(made_of(alloc, p, i, q, j, left, right)?))
+        }
+        None => Ok(None),
+    }
+}
+
+// The bindings by which the named parts become one, the second clause's variables behind those of the first.
+#[tactic(auto, using(crate::proofs::Resolved::solving))]
+fn solution(
+    alloc: Global,
+    ctx: &Ctx,
+    p: &Clause,
+    i: u32,
+    q: &Clause,
+    j: u32,
+    k: u32,
+) -> Result<Option<Subst>, NoMemory>
+    requires q_numbered { IsNumbered q.now }
+    requires few { k < 1000000000 }
+    requires q_few { length (variables q.now) < 1000000000 }
+    ensures { IfOk result (λ o. bindings_of o ≡ solved_apart ctx.now.sig.now ctx.now.ins.now k (asked (atom_at i p.now) (atom_at j q.now) p.now.answer q.now.answer)) }
+{
+    match literal_at(p.literals.as_slice(), i) {
+        Some(first) => match literal_at(q.literals.as_slice(), j) {
+            Some(second) => {
+                match asked_apart(alloc, &first.atom, &second.atom, &p.answer, &q.answer, k)? {
+                    Some(pairs) => unify(alloc, ctx, pairs.as_slice()),
+                    None => Ok(None),
+                }
+            }
+            None => Ok(None),
+        },
+        None => Ok(None),
+    }
+}
+
+// The answer's instance, of the first clause that has one.
+pub fn joint_answer(
+    alloc: Global,
+    first: &Option<Items<Term>>,
+    left: &[Term],
+    second: &Option<Items<Term>>,
+    right: &[Term],
+) -> Result<Option<Items<Term>>, NoMemory>
+    ensures { IfOk result (λ o. o ≡ shared (answer_under left.now first.now) (answer_under right.now second.now)) }
+{
+    match first {
+        Some(_) => instance_of_answer(alloc, first, left),
+        None => instance_of_answer(alloc, second, right),
+    }
+}
+
+// The row that is made of two lists of bindings.
+fn made_of(
+    alloc: Global,
+    p: &Clause,
+    i: u32,
+    q: &Clause,
+    j: u32,
+    left: Items<Term>,
+    right: Items<Term>,
+) -> Result<Made, NoMemory>
+    requires few { length (variables_of (row (resolvent p.now i q.now j left right) (left ∷ right ∷ []))) < 4000000000 }
+    ensures { IfOk result (λ m. m ≡ is_made_of (resolvent p.now i q.now j) left right) }
+{
+    let mut literals = instances_without(alloc, p.literals.as_slice(), i, left.as_slice())?;
+    let others = instances_without(alloc, q.literals.as_slice(), j, right.as_slice())?;
+    literals.append(others)?;
+    let literals = merge(alloc, literals.as_slice())?;
+    let answer = joint_answer(
+        alloc,
+        &p.answer,
+        left.as_slice(),
+        &q.answer,
+        right.as_slice(),
+    )?;
+    let with = two_lists(alloc, left, right)?;
+    renumber_made(
+        alloc,
+        &Made {
+            clause: Clause { literals, answer },
+            with,
+        },
+    )
+}
+
+pub fn two_lists(
+    alloc: Global,
+    left: Items<Term>,
+    right: Items<Term>,
+) -> Result<Items<Items<Term>>, NoMemory>
+    ensures { IfOk result (λ ws. ws ≡ left ∷ right ∷ []) }
+{
+    let mut made = Items::new(alloc);
+    made.push(left)?;
+    made.push(right)?;
+    Ok(made)
+}
