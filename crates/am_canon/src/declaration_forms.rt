@@ -1,4 +1,4 @@
-ghost use Rattle.std.specs.Prelude.{◌≡◌, ◌++◌, [], ◌∷◌, pos, IfOk, OnOk, map, codes};
+ghost use Rattle.std.specs.Prelude.{◌≡◌, ◌++◌, [], ◌∷◌, pos, IfOk, map, codes};
 ghost use Rattle.am_syntax.specs.Forms.{word_form, list_form, headed_form};
 ghost use Rattle.am_canon.specs.CanonicalText.{number_form, value_form, names_form, typed_form, rep_form, rep_forms, version_form, decl_form};
 
@@ -52,15 +52,55 @@ fn value_form(alloc: Global, value: &LitValue) -> Result<Form, NoMemory>
     }
 }
 
+// The forms with one more at the end.
+fn with_form(forms: Items<Form>, form: Form) -> Result<Items<Form>, NoMemory>
+    ensures { IfOk result (λ more. more ≡ forms ++ form ∷ []) }
+{
+    let mut forms = forms;
+    forms.push(form)?;
+    Ok(forms)
+}
+
+// The forms with that of a word at the end.
+fn with_word(alloc: Global, forms: Items<Form>, word: &str) -> Result<Items<Form>, NoMemory>
+    ensures { IfOk result (λ more. more ≡ forms ++ word_form word.now ∷ []) }
+{
+    let word = word_form(alloc, word)?;
+    with_form(forms, word)
+}
+
+// The form of a word alone among the members of a list.
+fn first_word(alloc: Global, head: &str) -> Result<Items<Form>, NoMemory>
+    ensures { IfOk result (λ fs. fs ≡ word_form head.now ∷ []) }
+{
+    with_word(alloc, Items::new(alloc), head)
+}
+
+// The forms of a head and a word behind it.
+fn two_words(alloc: Global, head: &str, word: &Name) -> Result<Items<Form>, NoMemory>
+    ensures { IfOk result (λ fs. fs ≡ word_form head.now ∷ word_form word.now ∷ []) }
+{
+    let members = first_word(alloc, head)?;
+    with_word(alloc, members, word.as_str())
+}
+
 #[tactic(auto, using(crate::proofs::FormSteps::map_laws))]
 fn names_form(alloc: Global, names: &[Name]) -> Result<Form, NoMemory>
     ensures { IfOk result (λ f. f ≡ names_form names.now) }
 {
     let mut members = Items::new(alloc);
     for name in names {
-        members.push(word_form(alloc, name.as_str())?)?;
+        members = with_word(alloc, members, name.as_str())?;
     }
     Ok(list_form(members))
+}
+
+// The forms with that of a list of names at the end.
+fn with_names(alloc: Global, forms: Items<Form>, names: &[Name]) -> Result<Items<Form>, NoMemory>
+    ensures { IfOk result (λ more. more ≡ forms ++ names_form names.now ∷ []) }
+{
+    let names = names_form(alloc, names)?;
+    with_form(forms, names)
 }
 
 fn typed_form(alloc: Global, typed: &Typed) -> Result<Form, NoMemory>
@@ -70,24 +110,23 @@ fn typed_form(alloc: Global, typed: &Typed) -> Result<Form, NoMemory>
     Ok(list_form(members))
 }
 
-// The forms of names with their sorts, behind what is there.
-#[tactic(auto, using(crate::proofs::FormSteps::map_laws))]
-fn push_typed(alloc: Global, members: &mut Items<Form>, all: &[Typed]) -> Result<(), NoMemory>
-    ensures { OnOk result (members.new ≡ members.old ++ map typed_form all.now) }
+// The forms with that of a name and its sort at the end.
+fn with_typed(alloc: Global, forms: Items<Form>, typed: &Typed) -> Result<Items<Form>, NoMemory>
+    ensures { IfOk result (λ more. more ≡ forms ++ typed_form typed.now ∷ []) }
 {
-    for typed in all {
-        members.push(typed_form(alloc, typed)?)?;
-    }
-    Ok(())
+    let typed = typed_form(alloc, typed)?;
+    with_form(forms, typed)
 }
 
-// The forms of a head and a word behind it.
-fn two_words(alloc: Global, head: &str, word: &Name) -> Result<Items<Form>, NoMemory>
-    ensures { IfOk result (λ fs. fs ≡ word_form head.now ∷ word_form word.now ∷ []) }
+// The forms with those of names and their sorts at the end.
+#[tactic(auto, using(crate::proofs::FormSteps::map_laws))]
+fn with_all_typed(alloc: Global, forms: Items<Form>, all: &[Typed]) -> Result<Items<Form>, NoMemory>
+    ensures { IfOk result (λ more. more ≡ forms ++ map typed_form all.now) }
 {
-    let mut members = Items::new(alloc);
-    members.push(word_form(alloc, head)?)?;
-    members.push(word_form(alloc, word.as_str())?)?;
+    let mut members = forms;
+    for typed in all {
+        members = with_typed(alloc, members, typed)?;
+    }
     Ok(members)
 }
 
@@ -114,31 +153,30 @@ fn one_number(alloc: Global, head: &str, number: i64) -> Result<Form, NoMemory>
 fn two_numbers(alloc: Global, head: &str, first: i64, second: i64) -> Result<Form, NoMemory>
     ensures { IfOk result (λ f. f ≡ headed_form head.now (number_form first ∷ number_form second ∷ [])) }
 {
-    let mut members = Items::new(alloc);
-    members.push(word_form(alloc, head)?)?;
-    members.push(number_form(first))?;
-    members.push(number_form(second))?;
+    let members = first_word(alloc, head)?;
+    let members = with_form(members, number_form(first))?;
+    let members = with_form(members, number_form(second))?;
     Ok(list_form(members))
 }
 
-// The representation and the copy routine of a sort, behind what is there.
-fn push_rep(
+// The forms with those of a sort's representation and copy routine at the end.
+fn with_rep(
     alloc: Global,
-    members: &mut Items<Form>,
+    forms: Items<Form>,
     rep: &Option<WrittenRep>,
     copy: &Option<Name>,
-) -> Result<(), NoMemory>
-    ensures { OnOk result (members.new ≡ members.old ++ rep_forms rep.now copy.now) }
+) -> Result<Items<Form>, NoMemory>
+    ensures { IfOk result (λ more. more ≡ forms ++ rep_forms rep.now copy.now) }
 {
-    match (rep, copy) {
-        (None, _) => {}
-        (Some(rep), None) => members.push(rep_form(alloc, *rep)?)?,
-        (Some(rep), Some(copy)) => {
-            members.push(rep_form(alloc, *rep)?)?;
-            members.push(word_form(alloc, copy.as_str())?)?;
-        }
+    let Some(rep) = rep else {
+        return Ok(forms);
+    };
+    let rep = rep_form(alloc, *rep)?;
+    let forms = with_form(forms, rep)?;
+    match copy {
+        Some(copy) => with_word(alloc, forms, copy.as_str()),
+        None => Ok(forms),
     }
-    Ok(())
 }
 
 fn sort_form(
@@ -149,35 +187,43 @@ fn sort_form(
 ) -> Result<Form, NoMemory>
     ensures { IfOk result (λ f. f ≡ headed_form (codes "sort") (word_form name.now ∷ rep_forms rep.now copy.now)) }
 {
-    let mut members = two_words(alloc, "sort", name)?;
-    push_rep(alloc, &mut members, rep, copy)?;
+    let members = two_words(alloc, "sort", name)?;
+    let members = with_rep(alloc, members, rep, copy)?;
     Ok(list_form(members))
 }
 
 fn function_form(alloc: Global, name: &Name, args: &[Name], sort: &Name) -> Result<Form, NoMemory>
     ensures { IfOk result (λ f. f ≡ headed_form (codes "function") (word_form name.now ∷ names_form args.now ∷ word_form sort.now ∷ [])) }
 {
-    let mut members = two_words(alloc, "function", name)?;
-    members.push(names_form(alloc, args)?)?;
-    members.push(word_form(alloc, sort.as_str())?)?;
+    let members = two_words(alloc, "function", name)?;
+    let members = with_names(alloc, members, args)?;
+    let members = with_word(alloc, members, sort.as_str())?;
     Ok(list_form(members))
 }
 
 fn relation_form(alloc: Global, name: &Name, args: &[Name]) -> Result<Form, NoMemory>
     ensures { IfOk result (λ f. f ≡ headed_form (codes "relation") (word_form name.now ∷ names_form args.now ∷ [])) }
 {
-    let mut members = two_words(alloc, "relation", name)?;
-    members.push(names_form(alloc, args)?)?;
+    let members = two_words(alloc, "relation", name)?;
+    let members = with_names(alloc, members, args)?;
     Ok(list_form(members))
 }
 
 fn literal_form(alloc: Global, name: &Name, sort: &Name, value: &LitValue) -> Result<Form, NoMemory>
     ensures { IfOk result (λ f. f ≡ headed_form (codes "literal") (word_form name.now ∷ word_form sort.now ∷ value_form value.now ∷ [])) }
 {
-    let mut members = two_words(alloc, "literal", name)?;
-    members.push(word_form(alloc, sort.as_str())?)?;
-    members.push(value_form(alloc, value)?)?;
+    let members = two_words(alloc, "literal", name)?;
+    let members = with_word(alloc, members, sort.as_str())?;
+    let members = with_value(alloc, members, value)?;
     Ok(list_form(members))
+}
+
+// The forms with that of a literal's value at the end.
+fn with_value(alloc: Global, forms: Items<Form>, value: &LitValue) -> Result<Items<Form>, NoMemory>
+    ensures { IfOk result (λ more. more ≡ forms ++ value_form value.now ∷ []) }
+{
+    let value = value_form(alloc, value)?;
+    with_form(forms, value)
 }
 
 fn routine_form(
@@ -188,9 +234,9 @@ fn routine_form(
 ) -> Result<Form, NoMemory>
     ensures { IfOk result (λ f. f ≡ headed_form (codes "routine") (word_form name.now ∷ names_form inputs.now ∷ map typed_form outputs.now)) }
 {
-    let mut members = two_words(alloc, "routine", name)?;
-    members.push(names_form(alloc, inputs)?)?;
-    push_typed(alloc, &mut members, outputs)?;
+    let members = two_words(alloc, "routine", name)?;
+    let members = with_names(alloc, members, inputs)?;
+    let members = with_all_typed(alloc, members, outputs)?;
     Ok(list_form(members))
 }
 
@@ -203,10 +249,10 @@ fn value_decl_form(
 ) -> Result<Form, NoMemory>
     ensures { IfOk result (λ f. f ≡ headed_form (codes "value") (word_form function.now ∷ word_form name.now ∷ names_form args.now ∷ word_form sort.now ∷ [])) }
 {
-    let mut members = two_words(alloc, "value", function)?;
-    members.push(word_form(alloc, name.as_str())?)?;
-    members.push(names_form(alloc, args)?)?;
-    members.push(word_form(alloc, sort.as_str())?)?;
+    let members = two_words(alloc, "value", function)?;
+    let members = with_word(alloc, members, name.as_str())?;
+    let members = with_names(alloc, members, args)?;
+    let members = with_word(alloc, members, sort.as_str())?;
     Ok(list_form(members))
 }
 
@@ -238,21 +284,25 @@ fn axiom_form(
 fn quantified_form(alloc: Global, variables: &[Typed], formula: Form) -> Result<Form, NoMemory>
     ensures { IfOk result (λ f. f ≡ headed_form (codes "all") (list_form (map typed_form variables.now) ∷ formula ∷ [])) }
 {
-    let mut typed = Items::new(alloc);
-    push_typed(alloc, &mut typed, variables)?;
-    let mut members = Items::new(alloc);
-    members.push(word_form(alloc, "all")?)?;
-    members.push(list_form(typed))?;
-    members.push(formula)?;
+    let members = quantifier(alloc, variables)?;
+    let members = with_form(members, formula)?;
     Ok(list_form(members))
+}
+
+// The forms of `all` and of the list of its variables.
+fn quantifier(alloc: Global, variables: &[Typed]) -> Result<Items<Form>, NoMemory>
+    ensures { IfOk result (λ fs. fs ≡ word_form (codes "all") ∷ list_form (map typed_form variables.now) ∷ []) }
+{
+    let typed = with_all_typed(alloc, Items::new(alloc), variables)?;
+    let members = first_word(alloc, "all")?;
+    with_form(members, list_form(typed))
 }
 
 fn one_member(alloc: Global, head: &str, member: Form) -> Result<Form, NoMemory>
     ensures { IfOk result (λ f. f ≡ headed_form head.now (member ∷ [])) }
 {
-    let mut members = Items::new(alloc);
-    members.push(word_form(alloc, head)?)?;
-    members.push(member)?;
+    let members = first_word(alloc, head)?;
+    let members = with_form(members, member)?;
     Ok(list_form(members))
 }
 

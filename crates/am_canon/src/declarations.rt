@@ -1,9 +1,10 @@
 ghost use Rattle.std.specs.Prelude.{◌≡◌, ◌==◌, ◌++◌, [], ◌∷◌, Some, IfOk, OnOk, map, find, option_copied};
 ghost use Rattle.am_syntax.specs.Scopes.{profile};
 ghost use Rattle.am_theory.specs.Contents.{contents};
-ghost use Rattle.am_canon.specs.CanonicalText.{sort_name, sort_names, result_name, written_rep, written_rep_of, sort_decls, typed_output, is_first, routine_decl, literal_decl, value_decl, symbol_decl, symbol_decls, typed_variable, written_axiom, declarations};
+ghost use Rattle.am_canon.specs.CanonicalText.{sort_name, sort_names, result_name, written_rep, written_rep_of, sort_decls, typed_output, is_first, routine_decl, literal_decl, value_decl, symbol_decl, symbol_decls, typed_at, typed_variable, axiom_naming, written_axiom, declarations};
+ghost use Rattle.am_syntax.specs.Naming.{named_formula};
 
-use am_syntax::{Naming, named_formula};
+use am_syntax::{Naming, WrittenFormula, named_formula};
 use am_term::{Name, NoMemory, SortId, SymId, SymKind, Symbol};
 use am_theory::{
     Axiom, Declaration, FortranFunction, LitValue, LiteralDecl, Rep, Routine, Theory, Typed,
@@ -49,11 +50,27 @@ fn sort_decls(
         let [copy, later_copies @ ..] = copies_left else {
             return Ok(made);
         };
-        made.push(sort_decl(alloc, name, *rep, copy)?)?;
+        made = with_sort(alloc, made, name, *rep, copy)?;
         names_left = later_names;
         reps_left = later_reps;
         copies_left = later_copies;
     }
+    Ok(made)
+}
+
+// The declarations with that of a sort at the end.
+fn with_sort(
+    alloc: Global,
+    made: Items<Declaration>,
+    name: &Name,
+    rep: Option<Rep>,
+    copy: &Option<Name>,
+) -> Result<Items<Declaration>, NoMemory>
+    ensures { IfOk result (λ ds. ds ≡ made ++ Declaration.Sort name.now (written_rep_of rep) copy.now ∷ []) }
+{
+    let sort = sort_decl(alloc, name, rep, copy)?;
+    let mut made = made;
+    made.push(sort)?;
     Ok(made)
 }
 
@@ -124,21 +141,44 @@ fn push_symbol(
     ensures { OnOk result (out.new ≡ out.old ++ symbol_decl (contents theory.now) number (profile symbol.now) symbol.now.kind) }
 {
     match symbol.kind {
-        SymKind::Function => out.push(function_decl(alloc, theory, symbol)?)?,
-        SymKind::Relation => out.push(relation_decl(alloc, theory, symbol)?)?,
+        SymKind::Function => push_function(alloc, theory, symbol, out),
+        SymKind::Relation => push_relation(alloc, theory, symbol, out),
         SymKind::Literal => {
             let literal = literal_of(theory.literals.as_slice(), number);
-            push_literal(alloc, theory, symbol, literal, out)?;
+            push_literal(alloc, theory, symbol, literal, out)
         }
         SymKind::Output => {
             let routine = routine_of(theory.routines.as_slice(), number);
-            push_routine(alloc, theory, routine, out)?;
+            push_routine(alloc, theory, routine, out)
         }
         SymKind::Value => {
             let function = function_of(theory.functions.as_slice(), number);
-            push_value(alloc, theory, symbol, function, out)?;
+            push_value(alloc, theory, symbol, function, out)
         }
     }
+}
+
+fn push_function(
+    alloc: Global,
+    theory: &Theory,
+    symbol: &Symbol,
+    out: &mut Items<Declaration>,
+) -> Result<(), NoMemory>
+    ensures { OnOk result (out.new ≡ out.old ++ Declaration.Function symbol.now.name (sort_names (contents theory.now) symbol.now.args) (result_name (contents theory.now) symbol.now.result) ∷ []) }
+{
+    out.push(function_decl(alloc, theory, symbol)?)?;
+    Ok(())
+}
+
+fn push_relation(
+    alloc: Global,
+    theory: &Theory,
+    symbol: &Symbol,
+    out: &mut Items<Declaration>,
+) -> Result<(), NoMemory>
+    ensures { OnOk result (out.new ≡ out.old ++ Declaration.Relation symbol.now.name (sort_names (contents theory.now) symbol.now.args) ∷ []) }
+{
+    out.push(relation_decl(alloc, theory, symbol)?)?;
     Ok(())
 }
 
@@ -238,15 +278,28 @@ fn value_decl(
 ) -> Result<Declaration, NoMemory>
     ensures { IfOk result (λ d. value_decl (contents theory.now) (profile symbol.now) (Some function.now) ≡ d ∷ []) }
 {
-    let function = Name::new(alloc, function.name.as_str())?;
-    let name = Name::new(alloc, symbol.name.as_str())?;
     let args = sort_names(alloc, theory, symbol.args.as_slice())?;
     let result = result_name(alloc, theory, symbol.result)?;
+    named_value(alloc, &function.name, &symbol.name, args, result)
+}
+
+// The declaration of a function's value, with these sorts.
+fn named_value(
+    alloc: Global,
+    function: &Name,
+    name: &Name,
+    args: Items<Name>,
+    sort: Name,
+) -> Result<Declaration, NoMemory>
+    ensures { IfOk result (λ d. d ≡ Declaration.Value function.now name.now args sort) }
+{
+    let function = Name::new(alloc, function.as_str())?;
+    let name = Name::new(alloc, name.as_str())?;
     Ok(Declaration::Value {
         function,
         name,
         args,
-        result,
+        result: sort,
     })
 }
 
@@ -345,16 +398,21 @@ fn typed_output(alloc: Global, theory: &Theory, output: SymId) -> Result<Typed, 
     ensures { IfOk result (λ t. t ≡ typed_output (contents theory.now) output) }
 {
     match sqlite_items::at(theory.sig.symbols.as_slice(), output.0 as usize) {
-        Some(symbol) => {
-            let name = Name::new(alloc, symbol.name.as_str())?;
-            let sort = result_name(alloc, theory, symbol.result)?;
-            Ok(Typed { name, sort })
-        }
+        Some(symbol) => typed_symbol(alloc, theory, symbol),
         None => Ok(Typed {
             name: Name::empty(alloc),
             sort: Name::empty(alloc),
         }),
     }
+}
+
+// The name of a symbol with its result sort.
+fn typed_symbol(alloc: Global, theory: &Theory, symbol: &Symbol) -> Result<Typed, NoMemory>
+    ensures { IfOk result (λ t. t ≡ typed_at (contents theory.now) (Some (profile symbol.now))) }
+{
+    let name = Name::new(alloc, symbol.name.as_str())?;
+    let sort = result_name(alloc, theory, symbol.result)?;
+    Ok(Typed { name, sort })
 }
 
 #[tactic(auto, using(crate::proofs::FormSteps::map_laws))]
@@ -367,18 +425,25 @@ fn push_axioms(alloc: Global, theory: &Theory, out: &mut Items<Declaration>) -> 
     Ok(())
 }
 
-#[tactic(auto, using(crate::proofs::DeclarationSteps::naming_steps))]
 fn written_axiom(alloc: Global, theory: &Theory, stated: &Axiom) -> Result<Declaration, NoMemory>
     ensures { IfOk result (λ d. d ≡ written_axiom (contents theory.now) stated.now) }
+{
+    let formula = axiom_formula(alloc, theory, stated)?;
+    let variables = typed_variables(alloc, theory, stated.vars.as_slice())?;
+    Ok(Declaration::Axiom { variables, formula })
+}
+
+// The formula of an axiom by the names of its variables and of the symbols.
+#[tactic(auto, using(crate::proofs::DeclarationSteps::naming_steps))]
+fn axiom_formula(alloc: Global, theory: &Theory, stated: &Axiom) -> Result<WrittenFormula, NoMemory>
+    ensures { IfOk result (λ f. f ≡ named_formula (axiom_naming (contents theory.now) stated.now) stated.now.formula) }
 {
     let naming = Naming {
         variables: stated.vars.as_slice(),
         inputs: &[],
         symbols: theory.sig.symbols.as_slice(),
     };
-    let formula = named_formula(alloc, &naming, &stated.formula)?;
-    let variables = typed_variables(alloc, theory, stated.vars.as_slice())?;
-    Ok(Declaration::Axiom { variables, formula })
+    named_formula(alloc, &naming, &stated.formula)
 }
 
 #[tactic(auto, using(crate::proofs::FormSteps::map_laws))]
@@ -391,9 +456,19 @@ fn typed_variables(
 {
     let mut all = Items::new(alloc);
     for variable in variables {
-        let name = Name::new(alloc, variable.0.as_str())?;
-        let sort = sort_name(alloc, theory, variable.1)?;
-        all.push(Typed { name, sort })?;
+        all.push(typed_variable(alloc, theory, variable)?)?;
     }
     Ok(all)
+}
+
+fn typed_variable(
+    alloc: Global,
+    theory: &Theory,
+    variable: &(Name, SortId),
+) -> Result<Typed, NoMemory>
+    ensures { IfOk result (λ t. t ≡ typed_variable (contents theory.now) variable.now) }
+{
+    let name = Name::new(alloc, variable.0.as_str())?;
+    let sort = sort_name(alloc, theory, variable.1)?;
+    Ok(Typed { name, sort })
 }

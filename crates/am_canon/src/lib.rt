@@ -18,6 +18,3 @@ pub use laws::{
     spelled_declarations_can_be_written,
 };
 pub use writing::write_theory;
-
-#[cfg(test)]
-mod text_tests;

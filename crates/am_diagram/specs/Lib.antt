@@ -7,3 +7,4 @@ pub mod Laws
 pub mod Limits
 pub mod Listed
 pub mod Reading
+pub mod Steps

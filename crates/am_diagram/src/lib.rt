@@ -29,6 +29,3 @@ pub use draft::Draft;
 pub use fault::{DiagramFault, DiagramKind};
 pub use laws::diagrams_that_were_read_are_well_formed;
 pub use reading::read_diagram;
-
-#[cfg(test)]
-mod tests;

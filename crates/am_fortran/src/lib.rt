@@ -15,8 +15,6 @@ mod numbers;
 mod reading;
 mod spelled;
 mod statement;
-#[cfg(test)]
-mod tests;
 mod unit;
 mod well;
 mod words;

@@ -1,4 +1,4 @@
-ghost use Rattle.std.specs.Prelude.{◌≡◌, ◌++◌, map, IfOk, OnOk};
+ghost use Rattle.std.specs.Prelude.{◌≡◌, ◌∷◌, ◌++◌, [], map, IfOk, OnOk};
 ghost use Rattle.std.specs.List.{flat_map};
 ghost use Rattle.std.specs.Fmt.{decimal};
 ghost use Rattle.am_fortran.specs.Items.{item_text};
@@ -182,14 +182,15 @@ fn operand(alloc: Global, operand: &Operand) -> Result<Name, NoMemory>
     match operand {
         Operand::Name(name) => Name::new(alloc, name.as_str()),
         Operand::Int(number) => Name::new(alloc, number.to_string(alloc)?.as_str()),
-        Operand::Text(text) => {
-            let mut quoted = String::new(alloc);
-            quoted.push_str("'")?;
-            quoted.push_str(text.as_str())?;
-            quoted.push_str("'")?;
-            Name::new(alloc, quoted.as_str())
-        }
+        Operand::Text(text) => quoted(alloc, text.as_str()),
     }
+}
+
+fn quoted(alloc: Global, text: &str) -> Result<Name, NoMemory>
+    ensures { IfOk result (λ quoted. quoted ≡ 39 ∷ text.now ++ 39 ∷ []) }
+{
+    let quoted = format!(in alloc; "'{text}'")?;
+    Name::new(alloc, quoted.as_str())
 }
 
 /// Writes `front`, the members and a closing parenthesis: on one line where it has at most 72
@@ -236,10 +237,23 @@ fn push_joined(out: &mut Vec<u8>, separator: &[u8], members: &[Name]) -> Result<
         return Ok(());
     };
     out.extend_from_slice(first.as_str().as_bytes())?;
-    for member in rest {
-        out.extend_from_slice(separator)?;
-        out.extend_from_slice(member.as_str().as_bytes())?;
+    push_behind(out, separator, rest)
+}
+
+fn push_behind(out: &mut Vec<u8>, separator: &[u8], members: &[Name]) -> Result<(), NoMemory>
+    ensures { OnOk result (out.new.items ≡ out.old.items ++ flat_map (λ member. separator.now ++ member) members.now) }
+{
+    for member in members {
+        push_two(out, separator, member.as_str().as_bytes())?;
     }
+    Ok(())
+}
+
+fn push_two(out: &mut Vec<u8>, first: &[u8], second: &[u8]) -> Result<(), NoMemory>
+    ensures { OnOk result (out.new.items ≡ out.old.items ++ (first.now ++ second.now)) }
+{
+    out.extend_from_slice(first)?;
+    out.extend_from_slice(second)?;
     Ok(())
 }
 

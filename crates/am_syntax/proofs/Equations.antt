@@ -31,7 +31,7 @@ use Rattle.am_syntax.specs.Scopes.{Scope, standing_of, symbol_of, result_of, arg
 use Rattle.am_syntax.specs.Flaws.{unknown_step, has_unknown_name, sort_at, written_sort, written_sorts, some_misfit, is_relation, is_lone_relation, parts_terms, parts_flaws, bad_sort_step, has_bad_sort, is_miscounted, is_lone_function, bad_arity_step, has_bad_arity, is_unbound, unbound_step, has_unbound, atom_has, some_atom_step, formula_has, quantifier_step, has_quantifier}
 use Rattle.am_syntax.specs.Meaning.{named_symbol, alone_term, meaning_step, term_meaning, atom_meaning, formula_meaning_step, formula_meaning}
 use Rattle.am_syntax.specs.Occurring.{occurs_in_atom, occurs_in_step, occurs_in_formula}
-use Rattle.am_syntax.specs.Sorted.{sorted_step, is_sorted_formula}
+use Rattle.am_term.specs.SortedFormula.{sorted_step, is_sorted_formula}
 use Rattle.am_syntax.specs.Naming.{Naming, applied, naming_step, named_term, named_atom, named_formula_step, named_formula}
 use Rattle.am_syntax.proofs.Among.{any-map}
 

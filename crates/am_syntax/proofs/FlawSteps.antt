@@ -13,7 +13,13 @@ use Rattle.am_syntax.specs.Scopes.{Scope}
 use Rattle.am_syntax.specs.Flaws.{written_sort, written_sorts, misfits, some_misfit}
 use Rattle.am_syntax.proofs.Equations.{has_unknown_name-Alone, has_unknown_name-Headed, has_bad_arity-Alone, has_bad_arity-Headed, has_unbound-Alone, has_unbound-Headed, has_bad_sort-Alone, has_bad_sort-Headed}
 
-pub ruleset term_steps = (common_steps, the_lemmas, has_unknown_name-Alone, has_unknown_name-Headed, has_bad_arity-Alone, has_bad_arity-Headed, has_unbound-Alone, has_unbound-Headed, has_bad_sort-Alone, has_bad_sort-Headed, list_any_more, list_any_at)
+pub ruleset name_flaws = (common_steps, the_lemmas, has_unknown_name-Alone, has_unknown_name-Headed, list_any_more, list_any_at)
+
+pub ruleset sort_flaws = (common_steps, the_lemmas, has_bad_sort-Alone, has_bad_sort-Headed, list_any_more, list_any_at)
+
+pub ruleset arity_flaws = (common_steps, the_lemmas, has_bad_arity-Alone, has_bad_arity-Headed, list_any_more, list_any_at)
+
+pub ruleset unbound_flaws = (common_steps, the_lemmas, has_unbound-Alone, has_unbound-Headed, list_any_more, list_any_at)
 
 pub ruleset symbol_steps = (common_steps, nat_tests)
 

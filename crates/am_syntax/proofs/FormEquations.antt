@@ -120,4 +120,6 @@ pub quantifier-Quantified : has_quantifier made.Quantified ≡ true
 unfolding has_quantifier
 quantifier-Quantified = fold-Quantified Bool quantifier_step
 
-pub ruleset form_laws = (common_steps, the_lemmas, formula_lemmas, map_more, form-Alone, form-Headed, form-Atom, form-Not, form-And, form-Or, form-Implies, form-Iff, form-Quantified)
+pub ruleset term_form_laws = (common_steps, the_lemmas, map_more, form-Alone, form-Headed)
+
+pub ruleset formula_form_laws = (common_steps, formula_lemmas, map_more, form-Atom, form-Not, form-And, form-Or, form-Implies, form-Iff, form-Quantified)

@@ -18,7 +18,7 @@ use Rattle.am_syntax.specs.InductFormula.{written_formula_induct}
 use Rattle.am_syntax.specs.Scopes.{Scope, symbol_of, args_of}
 use Rattle.am_syntax.specs.Flaws.{term_has, written_sort, written_sorts, some_misfit, is_function, is_miscounted, are_apart, relation_has, equation_has, formula_has, has_quantifier}
 use Rattle.am_syntax.specs.Meaning.{term_meaning, atom_meaning, formula_meaning}
-use Rattle.am_syntax.specs.Sorted.{is_sorted_formula}
+use Rattle.am_term.specs.SortedFormula.{is_sorted_formula}
 use Rattle.am_syntax.specs.Laws.{MatchesSignature, IsFlawlessAtom, IsFlawlessFormula, IsWellSorted}
 use Rattle.am_syntax.proofs.Among.{none_left, none_right}
 use Rattle.am_syntax.proofs.Known.{Known, known, known-symbol}

@@ -19,7 +19,7 @@ use Rattle.am_syntax.specs.Forms.{is_spellable, is_spellable_atom, is_spellable_
 use Rattle.am_syntax.specs.Meaning.{term_meaning, atom_meaning, formula_meaning}
 use Rattle.am_syntax.specs.Naming.{Naming, named_term, named_atom, named_formula}
 use Rattle.am_syntax.specs.Occurring.{occurs_in_atom, occurs_in_formula}
-use Rattle.am_syntax.specs.Sorted.{is_sorted_formula}
+use Rattle.am_term.specs.SortedFormula.{is_sorted_formula}
 
 -- ---- what has no flaw is well sorted
 

@@ -10,7 +10,6 @@ pub mod Scopes
 pub mod Flaws
 pub mod Meaning
 pub mod Naming
-pub mod Sorted
 pub mod Occurring
 pub mod Laws
 pub mod ShapeLaws

@@ -22,7 +22,7 @@ pub fn term_has(scope: &Scope, flaw: Flaw, term: &WrittenTerm) -> bool
     }
 }
 
-#[tactic(auto, using(crate::proofs::FlawSteps::term_steps))]
+#[tactic(auto, using(crate::proofs::FlawSteps::name_flaws))]
 fn has_unknown_name(scope: &Scope, term: &WrittenTerm) -> bool
     ensures { result ≡ has_unknown_name (scope_of scope.now) term.now }
 {
@@ -42,7 +42,7 @@ fn has_unknown_name(scope: &Scope, term: &WrittenTerm) -> bool
     }
 }
 
-#[tactic(auto, using(crate::proofs::FlawSteps::term_steps))]
+#[tactic(auto, using(crate::proofs::FlawSteps::sort_flaws))]
 fn has_bad_sort(scope: &Scope, term: &WrittenTerm) -> bool
     ensures { result ≡ has_bad_sort (scope_of scope.now) term.now }
 {
@@ -65,7 +65,7 @@ fn has_bad_sort(scope: &Scope, term: &WrittenTerm) -> bool
     }
 }
 
-#[tactic(auto, using(crate::proofs::FlawSteps::term_steps))]
+#[tactic(auto, using(crate::proofs::FlawSteps::arity_flaws))]
 fn has_bad_arity(scope: &Scope, term: &WrittenTerm) -> bool
     ensures { result ≡ has_bad_arity (scope_of scope.now) term.now }
 {
@@ -85,7 +85,7 @@ fn has_bad_arity(scope: &Scope, term: &WrittenTerm) -> bool
     }
 }
 
-#[tactic(auto, using(crate::proofs::FlawSteps::term_steps))]
+#[tactic(auto, using(crate::proofs::FlawSteps::unbound_flaws))]
 fn has_unbound(scope: &Scope, term: &WrittenTerm) -> bool
     ensures { result ≡ has_unbound (scope_of scope.now) term.now }
 {
@@ -282,7 +282,7 @@ fn some_term_has(scope: &Scope, flaw: Flaw, terms: &[WrittenTerm]) -> bool
 
 /// Whether some atom of the formula has the flaw; in a quantifier nothing is tested. Takes no memory.
 #[cycle(atoms)]
-#[tactic(auto, using(crate::proofs::FormulaSteps::formula_steps))]
+#[tactic(auto, using(crate::proofs::FormulaSteps::formula_flaws))]
 pub fn formula_has(scope: &Scope, flaw: Flaw, formula: &WrittenFormula) -> bool
     ensures { result ≡ formula_has (scope_of scope.now) flaw formula.now }
 {
@@ -302,7 +302,7 @@ pub fn formula_has(scope: &Scope, flaw: Flaw, formula: &WrittenFormula) -> bool
 }
 
 #[cycle(atoms)]
-#[tactic(auto, using(crate::proofs::FormulaSteps::formula_steps))]
+#[tactic(auto, using(crate::proofs::FormulaSteps::formula_flaws))]
 fn some_formula_has(scope: &Scope, flaw: Flaw, formulas: &[WrittenFormula]) -> bool
     ensures { result ≡ list_any (formula_has (scope_of scope.now) flaw) formulas.now }
 {
@@ -316,7 +316,7 @@ fn some_formula_has(scope: &Scope, flaw: Flaw, formulas: &[WrittenFormula]) -> b
 
 /// Whether a quantifier stands inside the formula. Takes no memory.
 #[cycle(quantifiers)]
-#[tactic(auto, using(crate::proofs::FormulaSteps::formula_steps))]
+#[tactic(auto, using(crate::proofs::FormulaSteps::quantifiers))]
 pub fn has_quantifier(formula: &WrittenFormula) -> bool
     ensures { result ≡ has_quantifier formula.now }
 {
@@ -336,7 +336,7 @@ pub fn has_quantifier(formula: &WrittenFormula) -> bool
 }
 
 #[cycle(quantifiers)]
-#[tactic(auto, using(crate::proofs::FormulaSteps::formula_steps))]
+#[tactic(auto, using(crate::proofs::FormulaSteps::quantifiers))]
 fn some_has_quantifier(formulas: &[WrittenFormula]) -> bool
     ensures { result ≡ list_any has_quantifier formulas.now }
 {

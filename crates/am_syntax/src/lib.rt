@@ -7,9 +7,8 @@
 #![tactic(auto)]
 
 mod bound_table;
-#[cfg(test)]
-mod flaw_tests;
 mod flaws;
+mod form_lists;
 mod forms;
 mod laws;
 mod laws_of_shapes;
@@ -41,6 +40,3 @@ pub use scope::{Bound, Flaw, Scope, Standing};
 pub use shapes::{formula_of, literal_of, term_of};
 pub use table::NameTable;
 pub use written::{Words, WrittenAtom, WrittenFormula, WrittenLiteral, WrittenTerm};
-
-#[cfg(test)]
-mod tests;

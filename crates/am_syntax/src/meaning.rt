@@ -77,8 +77,7 @@ pub fn atom_meaning(alloc: Global, scope: &Scope, atom: &WrittenAtom) -> Result<
     match atom {
         WrittenAtom::Equation { left, right } => {
             let left = term_meaning(alloc, scope, left)?;
-            let right = term_meaning(alloc, scope, right)?;
-            Ok(Atom::Eq { left, right })
+            equated_meaning(alloc, scope, left, right)
         }
         WrittenAtom::Relation { name, args } => {
             let args = term_meanings(alloc, scope, args.as_slice())?;
@@ -88,6 +87,19 @@ pub fn atom_meaning(alloc: Global, scope: &Scope, atom: &WrittenAtom) -> Result<
             })
         }
     }
+}
+
+// The equation of a term and what this one stands for.
+fn equated_meaning(
+    alloc: Global,
+    scope: &Scope,
+    left: Term,
+    right: &WrittenTerm,
+) -> Result<Atom, NoMemory>
+    ensures { IfOk result (λ a. a ≡ Atom.Eq left (term_meaning (scope_of scope.now) right.now)) }
+{
+    let right = term_meaning(alloc, scope, right)?;
+    Ok(Atom::Eq { left, right })
 }
 
 /// The literal that this one stands for. Where its atom has a flaw, any literal.
@@ -117,10 +129,7 @@ pub fn formula_meaning(
 {
     match formula {
         WrittenFormula::Atom(atom) => Ok(Formula::Atom(atom_meaning(alloc, scope, atom)?)),
-        WrittenFormula::Not(inner) => {
-            let inner = formula_meaning(alloc, scope, inner.get())?;
-            Ok(Formula::Not(Boxed::new(alloc, inner)?))
-        }
+        WrittenFormula::Not(inner) => Ok(Formula::Not(boxed_meaning(alloc, scope, inner.get())?)),
         WrittenFormula::And(parts) => {
             let parts = formula_meanings(alloc, scope, parts.as_slice())?;
             Ok(Formula::And(parts))
@@ -130,17 +139,55 @@ pub fn formula_meaning(
             Ok(Formula::Or(parts))
         }
         WrittenFormula::Implies(left, right) => {
-            let left = Boxed::new(alloc, formula_meaning(alloc, scope, left.get())?)?;
-            let right = Boxed::new(alloc, formula_meaning(alloc, scope, right.get())?)?;
-            Ok(Formula::Implies(left, right))
+            let left = boxed_meaning(alloc, scope, left.get())?;
+            implied_meaning(alloc, scope, right.get(), left)
         }
         WrittenFormula::Iff(left, right) => {
-            let left = Boxed::new(alloc, formula_meaning(alloc, scope, left.get())?)?;
-            let right = Boxed::new(alloc, formula_meaning(alloc, scope, right.get())?)?;
-            Ok(Formula::Iff(left, right))
+            let left = boxed_meaning(alloc, scope, left.get())?;
+            equivalent_meaning(alloc, scope, right.get(), left)
         }
         WrittenFormula::Quantified => Ok(Formula::And(Items::new(alloc))),
     }
+}
+
+#[cycle(formulas)]
+fn boxed_meaning(
+    alloc: Global,
+    scope: &Scope,
+    formula: &WrittenFormula,
+) -> Result<Boxed<Formula>, NoMemory>
+    ensures { IfOk result (λ f. f ≡ formula_meaning (scope_of scope.now) formula.now) }
+{
+    let formula = formula_meaning(alloc, scope, formula)?;
+    Ok(Boxed::new(alloc, formula)?)
+}
+
+// The implication from a formula to what this one stands for.
+#[cycle(formulas)]
+fn implied_meaning(
+    alloc: Global,
+    scope: &Scope,
+    right: &WrittenFormula,
+    left: Boxed<Formula>,
+) -> Result<Formula, NoMemory>
+    ensures { IfOk result (λ f. f ≡ Formula.Implies left (formula_meaning (scope_of scope.now) right.now)) }
+{
+    let right = boxed_meaning(alloc, scope, right)?;
+    Ok(Formula::Implies(left, right))
+}
+
+// The equivalence of a formula and what this one stands for.
+#[cycle(formulas)]
+fn equivalent_meaning(
+    alloc: Global,
+    scope: &Scope,
+    right: &WrittenFormula,
+    left: Boxed<Formula>,
+) -> Result<Formula, NoMemory>
+    ensures { IfOk result (λ f. f ≡ Formula.Iff left (formula_meaning (scope_of scope.now) right.now)) }
+{
+    let right = boxed_meaning(alloc, scope, right)?;
+    Ok(Formula::Iff(left, right))
 }
 
 #[cycle(formulas)]

@@ -22,18 +22,11 @@ pub fn named_term(alloc: Global, naming: &Naming, term: &Term) -> Result<Written
     ensures { IfOk result (λ t. t ≡ named_term (naming_of naming.now) term.now) }
 {
     match term {
-        Term::Var { n, .. } => {
-            let name = declared_name(alloc, naming.variables, *n)?;
-            Ok(WrittenTerm::Alone(name))
-        }
-        Term::In { k } => {
-            let name = declared_name(alloc, naming.inputs, *k)?;
-            Ok(WrittenTerm::Alone(name))
-        }
+        Term::Var { n, .. } => alone_term(alloc, naming.variables, *n),
+        Term::In { k } => alone_term(alloc, naming.inputs, *k),
         Term::App { f, args } => {
             let args = named_terms(alloc, naming, args.as_slice())?;
-            let name = symbol_name(alloc, naming, *f)?;
-            Ok(applied(name, args))
+            applied_term(alloc, naming, *f, args)
         }
     }
 }
@@ -52,6 +45,31 @@ fn named_terms(
         made.push(named_term(alloc, naming, term)?)?;
     }
     Ok(made)
+}
+
+// The name of this number, alone.
+fn alone_term(
+    alloc: Global,
+    declared: &[(Name, SortId)],
+    number: u32,
+) -> Result<WrittenTerm, NoMemory>
+    ensures { IfOk result (λ t. t ≡ WrittenTerm.Alone (slice_index_or (map (λ d. d.0) declared.now) number [])) }
+{
+    let name = declared_name(alloc, declared, number)?;
+    Ok(WrittenTerm::Alone(name))
+}
+
+// The name of this symbol alone, or before its arguments.
+fn applied_term(
+    alloc: Global,
+    naming: &Naming,
+    id: SymId,
+    args: Items<WrittenTerm>,
+) -> Result<WrittenTerm, NoMemory>
+    ensures { IfOk result (λ t. t ≡ applied (slice_index_or (naming_of naming.now).symbols id.0 []) args) }
+{
+    let name = symbol_name(alloc, naming, id)?;
+    Ok(applied(name, args))
 }
 
 // The name alone, or before its arguments.
@@ -95,15 +113,39 @@ pub fn named_atom(alloc: Global, naming: &Naming, atom: &Atom) -> Result<Written
     match atom {
         Atom::Rel { r, args } => {
             let args = named_terms(alloc, naming, args.as_slice())?;
-            let name = symbol_name(alloc, naming, *r)?;
-            Ok(WrittenAtom::Relation { name, args })
+            named_relation(alloc, naming, *r, args)
         }
         Atom::Eq { left, right } => {
             let left = named_term(alloc, naming, left)?;
-            let right = named_term(alloc, naming, right)?;
-            Ok(WrittenAtom::Equation { left, right })
+            named_equation(alloc, naming, left, right)
         }
     }
+}
+
+// The relation of this symbol and these arguments.
+fn named_relation(
+    alloc: Global,
+    naming: &Naming,
+    id: SymId,
+    args: Items<WrittenTerm>,
+) -> Result<WrittenAtom, NoMemory>
+    ensures { IfOk result (λ a. a ≡ WrittenAtom.Relation (slice_index_or (naming_of naming.now).symbols id.0 []) args) }
+{
+    let name = symbol_name(alloc, naming, id)?;
+    Ok(WrittenAtom::Relation { name, args })
+}
+
+// The equation of a term and this one as it is written.
+fn named_equation(
+    alloc: Global,
+    naming: &Naming,
+    left: WrittenTerm,
+    right: &Term,
+) -> Result<WrittenAtom, NoMemory>
+    ensures { IfOk result (λ a. a ≡ WrittenAtom.Equation left (named_term (naming_of naming.now) right.now)) }
+{
+    let right = named_term(alloc, naming, right)?;
+    Ok(WrittenAtom::Equation { left, right })
 }
 
 /// The formula as it is written.
@@ -118,10 +160,7 @@ pub fn named_formula(
 {
     match formula {
         Formula::Atom(atom) => Ok(WrittenFormula::Atom(named_atom(alloc, naming, atom)?)),
-        Formula::Not(inner) => {
-            let inner = named_formula(alloc, naming, inner.get())?;
-            Ok(WrittenFormula::Not(Boxed::new(alloc, inner)?))
-        }
+        Formula::Not(inner) => Ok(WrittenFormula::Not(boxed_formula(alloc, naming, inner.get())?)),
         Formula::And(parts) => {
             let parts = named_formulas(alloc, naming, parts.as_slice())?;
             Ok(WrittenFormula::And(parts))
@@ -131,16 +170,54 @@ pub fn named_formula(
             Ok(WrittenFormula::Or(parts))
         }
         Formula::Implies(left, right) => {
-            let left = Boxed::new(alloc, named_formula(alloc, naming, left.get())?)?;
-            let right = Boxed::new(alloc, named_formula(alloc, naming, right.get())?)?;
-            Ok(WrittenFormula::Implies(left, right))
+            let left = boxed_formula(alloc, naming, left.get())?;
+            implied_formula(alloc, naming, right.get(), left)
         }
         Formula::Iff(left, right) => {
-            let left = Boxed::new(alloc, named_formula(alloc, naming, left.get())?)?;
-            let right = Boxed::new(alloc, named_formula(alloc, naming, right.get())?)?;
-            Ok(WrittenFormula::Iff(left, right))
+            let left = boxed_formula(alloc, naming, left.get())?;
+            equivalent_formula(alloc, naming, right.get(), left)
         }
     }
+}
+
+#[cycle(formulas)]
+fn boxed_formula(
+    alloc: Global,
+    naming: &Naming,
+    formula: &Formula,
+) -> Result<Boxed<WrittenFormula>, NoMemory>
+    ensures { IfOk result (λ f. f ≡ named_formula (naming_of naming.now) formula.now) }
+{
+    let formula = named_formula(alloc, naming, formula)?;
+    Ok(Boxed::new(alloc, formula)?)
+}
+
+// The implication from a formula to this one as it is written.
+#[cycle(formulas)]
+fn implied_formula(
+    alloc: Global,
+    naming: &Naming,
+    right: &Formula,
+    left: Boxed<WrittenFormula>,
+) -> Result<WrittenFormula, NoMemory>
+    ensures { IfOk result (λ f. f ≡ WrittenFormula.Implies left (named_formula (naming_of naming.now) right.now)) }
+{
+    let right = boxed_formula(alloc, naming, right)?;
+    Ok(WrittenFormula::Implies(left, right))
+}
+
+// The equivalence of a formula and this one as it is written.
+#[cycle(formulas)]
+fn equivalent_formula(
+    alloc: Global,
+    naming: &Naming,
+    right: &Formula,
+    left: Boxed<WrittenFormula>,
+) -> Result<WrittenFormula, NoMemory>
+    ensures { IfOk result (λ f. f ≡ WrittenFormula.Iff left (named_formula (naming_of naming.now) right.now)) }
+{
+    let right = boxed_formula(alloc, naming, right)?;
+    Ok(WrittenFormula::Iff(left, right))
 }
 
 #[cycle(formulas)]

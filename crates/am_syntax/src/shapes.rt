@@ -11,7 +11,7 @@ use am_text::{Form, FormNode};
 use sqlite_items::{Boxed, Items};
 use std::alloc::Global;
 
-#[derive(Clone, Copy, Debug, PartialEq, Eq)]
+#[derive(Clone, Copy)]
 enum Connective {
     Not,
     And,
@@ -21,7 +21,7 @@ enum Connective {
 }
 
 /// What the head of a list says of the formula that the list is.
-#[derive(Clone, Copy, Debug, PartialEq, Eq)]
+#[derive(Clone, Copy)]
 enum Head {
     Joined(Connective),
     Equals,
@@ -279,12 +279,10 @@ fn implication(
 ) -> Result<Option<WrittenFormula>, NoMemory>
     ensures { IfOk result (λ f. f ≡ joined Connective.Implies (Some members)) }
 {
-    let Some((left, right)) = two(members) else {
-        return Ok(None);
-    };
-    let left = Boxed::new(alloc, left)?;
-    let right = Boxed::new(alloc, right)?;
-    Ok(Some(WrittenFormula::Implies(left, right)))
+    match two_boxed(alloc, members)? {
+        Some((left, right)) => Ok(Some(WrittenFormula::Implies(left, right))),
+        None => Ok(None),
+    }
 }
 
 #[tactic(auto, using(crate::proofs::FormulaEquations::formula_laws))]
@@ -294,12 +292,10 @@ fn equivalence(
 ) -> Result<Option<WrittenFormula>, NoMemory>
     ensures { IfOk result (λ f. f ≡ joined Connective.Iff (Some members)) }
 {
-    let Some((left, right)) = two(members) else {
-        return Ok(None);
-    };
-    let left = Boxed::new(alloc, left)?;
-    let right = Boxed::new(alloc, right)?;
-    Ok(Some(WrittenFormula::Iff(left, right)))
+    match two_boxed(alloc, members)? {
+        Some((left, right)) => Ok(Some(WrittenFormula::Iff(left, right))),
+        None => Ok(None),
+    }
 }
 
 /// The equation of these terms, where they are two.
@@ -413,6 +409,21 @@ fn two<T: Drop>(items: Items<T>) -> Option<(T, T)>
     } else {
         None
     }
+}
+
+/// The two items, each in a box, where they are two.
+fn two_boxed<T: Drop>(
+    alloc: Global,
+    items: Items<T>,
+) -> Result<Option<(Boxed<T>, Boxed<T>)>, NoMemory>
+    ensures { IfOk result (λ pair. pair ≡ two_in items) }
+{
+    let Some((left, right)) = two(items) else {
+        return Ok(None);
+    };
+    let left = Boxed::new(alloc, left)?;
+    let right = Boxed::new(alloc, right)?;
+    Ok(Some((left, right)))
 }
 
 fn stands_alone(words: Words, word: &Name) -> bool

@@ -12,7 +12,7 @@ use Rattle.am_term.specs.NameLists.{is_among, are_distinct}
 use Rattle.am_term.specs.Sorts.{akin}
 use Rattle.am_clause.specs.ClauseForm.{maps}
 use Rattle.am_syntax.specs.Scopes.{Profile, profile, result_of}
-use Rattle.am_syntax.specs.Sorted.{is_sorted_formula}
+use Rattle.am_term.specs.SortedFormula.{is_sorted_formula}
 use Rattle.am_syntax.specs.Laws.{MatchesSignature}
 use Rattle.am_syntax.proofs.WellSortedFormula.{formula-sorted}
 use Rattle.am_theory.specs.declared.theory.Rep.{Rep}

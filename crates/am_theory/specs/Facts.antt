@@ -13,7 +13,7 @@ use Rattle.am_text.specs.Bytes.{is_text_byte}
 use Rattle.am_text.specs.Spelling.{fits}
 use Rattle.am_clause.specs.declared.clause.Clause.{Clause}
 use Rattle.am_clause.specs.ClauseForm.{cnf}
-use Rattle.am_syntax.specs.Sorted.{is_sorted_formula}
+use Rattle.am_term.specs.SortedFormula.{is_sorted_formula}
 use Rattle.am_theory.specs.declared.theory.Rep.{Rep}
 use Rattle.am_theory.specs.declared.theory.Rep.TheVariants as rep
 use Rattle.am_theory.specs.declared.theory.LitValue.{LitValue}

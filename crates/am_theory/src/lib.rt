@@ -26,8 +26,3 @@ pub use laws::theories_that_were_read_are_well_formed;
 pub use reading::read_theory;
 pub use shapes::{list_of, name_of, word_of};
 pub use theory::{Axiom, FortranFunction, LitValue, LiteralDecl, Rep, Routine, Theory};
-
-#[cfg(test)]
-mod reader_tests;
-#[cfg(test)]
-mod shape_tests;
