@@ -1,0 +1,14 @@
+pub mod Answers
+pub mod Cut
+pub mod Faults
+pub mod Fold
+pub mod Groups
+pub mod Guess
+pub mod Induct
+pub mod Laws
+pub mod Naming
+pub mod Spelled
+pub mod Split
+pub mod Tables
+pub mod Text
+pub mod Unwrapped
