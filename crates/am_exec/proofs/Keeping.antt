@@ -21,7 +21,6 @@ use Rattle.am_fortran.specs.declared.statement.Statement.TheVariants.{Call, Assi
 use Rattle.am_fortran.specs.declared.unit.Unit.{Unit as Subroutine}
 use Rattle.am_exec.specs.Run.{name_in}
 use Rattle.am_exec.specs.Types.{dummy_type, local_type, type_by}
-use Rattle.am_exec.specs.Given.{numbered}
 use Rattle.am_exec.specs.Lawful.{dummies_of, typed, listed_target, call_targets, targets, HasTypeOf, IsLocal, IsFunction, Lawful}
 use Rattle.am_exec.specs.Laws.{KeepsRules, RunsByTerms, IsRightByTerms}
 use Rattle.am_exec.specs.States.{Store, term_held, is_held, inputs_from, inputs_held, entries}
@@ -187,6 +186,7 @@ pub units-right : IsRightByTerms
 units-right w t d u ts h e meets = record {
   lawful = units-lawful t d u ts h e;
   solves = λ ins given.
-      let r = units-run w t d u ins (numbered []) ts given.members e in
-      record { end = r.end; runs = r.runs; outs = values w ins (numbered []) ts; hold = r.hold; meets = meets ins given };
+      let served = meets ins given in
+      let r = units-run w t d u ins served.0 ts given.members e in
+      record { end = r.end; runs = r.runs; outs = values w ins served.0 ts; hold = r.hold; meets = served.1 };
 }

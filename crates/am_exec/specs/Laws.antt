@@ -8,7 +8,7 @@ use Rattle.am_theory.specs.Facts.{WellFormed}
 use Rattle.am_diagram.specs.declared.diagram.Diagram.{Diagram}
 use Rattle.am_diagram.specs.Listed.{names_of, sorts_in}
 use Rattle.am_fortran.specs.declared.unit.Unit.{Unit as Subroutine}
-use Rattle.am_exec.specs.Given.{Given, Spec, numbered}
+use Rattle.am_exec.specs.Given.{Given, Spec}
 use Rattle.am_exec.specs.Run.{State, held, run}
 use Rattle.am_exec.specs.Lawful.{Lawful}
 use Rattle.am_exec.specs.Right.{Right}
@@ -29,7 +29,8 @@ pub record RunsTo (w : Interpretation) (t : Theory) (d : Diagram) (u : Subroutin
 abbrev pub RunsByTerms : Type 0
 RunsByTerms = (w : Interpretation) (t : Theory) (d : Diagram) (u : Subroutine) (ins : List ℕ) (a : Assignment) (ts : List Term) → Members w (sorts_in d.inputs) ins → terms t d u ≡ Ok ts → RunsTo w t d u ins a ts
 
--- a unit is right in an interpretation where the values of its outputs' terms are what the diagram asks for
+-- a unit is right in an interpretation where for all inputs that meet the givens, under some assignment, the values of
+-- its outputs' terms are what the diagram asks for
 abbrev pub IsRightByTerms : Type 0
 IsRightByTerms = (w : Interpretation) (t : Theory) (d : Diagram) (u : Subroutine) (ts : List Term) → WellFormed t → terms t d u ≡ Ok ts
-    → ((ins : List ℕ) → Given w d ins → Spec w d ins (values w ins (numbered []) ts)) → Right w t d u
+    → ((ins : List ℕ) → Given w d ins → (a : Assignment) × Spec w d ins (values w ins a ts)) → Right w t d u

@@ -10,8 +10,6 @@ mod declarations;
 mod effects;
 mod fault;
 mod faults;
-#[cfg(test)]
-mod fixtures;
 mod laws;
 mod lookups;
 mod name_index;
@@ -20,8 +18,6 @@ mod running;
 mod scene;
 mod store;
 mod targets;
-#[cfg(test)]
-mod tests;
 mod types;
 
 pub use fault::{ExecFault, ExecKind};

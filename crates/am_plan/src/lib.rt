@@ -32,6 +32,3 @@ pub use laws::{law_of_answer, law_of_calls, law_of_need};
 pub use named_terms::{NamedTerms, indexed, name_at, name_of};
 pub use naming::{Wanted, index_of, local_name, named, output_for};
 pub use planning::plan;
-
-#[cfg(test)]
-mod tests;
