@@ -1,30 +1,42 @@
 -- What a command's answer says of its status.
-use Rattle.std.proofs.Common.{◌≡◌, ◌≢◌, ◌∙◌, ◌⊎◌, inl, inr, ℕ, refl, sym, ap, subst, Option, Some, Result, Ok, Err, List}
+use Rattle.std.proofs.Common.{◌≡◌, ◌≢◌, ◌∙◌, ◌⊎◌, ◌<◌, inl, inr, ℕ, refl, sym, ap, subst, Option, Some, None, Result, Ok, Err, List, [], length}
 use Rattle.am_term.specs.declared.term.Term.{Term}
+use Rattle.am_outside.specs.Causes.{Rose}
 use Rattle.am_outside.specs.Growth.{Grows}
 use Rattle.am_world.specs.Interpretation.{Interpretation, IsWorld}
 use Rattle.am_theory.specs.declared.theory.Theory.{Theory as TheoryValue}
 use Rattle.am_theory.specs.Contents.{Contents, contents}
+use Rattle.am_theory.specs.Limits.{file_limit}
 use Rattle.am_canon.specs.CanonicalText.{canon}
 use Rattle.am_theory.specs.Reading.{theory}
 use Rattle.am_diagram.specs.declared.diagram.Diagram.{Diagram as DiagramValue}
 use Rattle.am_diagram.specs.declared.fault.DiagramFault.{DiagramFault}
 use Rattle.am_diagram.specs.Reading.{diagram}
+use Rattle.am_exec.specs.Given.{numbered}
 use Rattle.am_exec.specs.Right.{Right}
 use Rattle.am_exec.proofs.Keeping.{units-right}
 use Rattle.am_fortran.specs.declared.unit.Unit.{Unit as Subroutine}
 use Rattle.am_fortran.specs.Text.{unit_text}
+use Rattle.am_top.specs.declared.answer.File.{File}
 use Rattle.am_top.specs.declared.answer.File.TheVariants.{Theory, Diagram}
 use Rattle.am_top.specs.declared.answer.Answer.{Answer}
-use Rattle.am_top.specs.declared.answer.Answer.TheVariants.{Text, Usage, Fault, NotBuilt, Unread, NoMemory}
+use Rattle.am_top.specs.declared.answer.Answer.TheVariants.{Text, Usage, Refused, Unread, NoMemory}
+use Rattle.am_top.specs.declared.answer.Refusal.{Refusal}
+use Rattle.am_top.specs.declared.answer.Refusal.TheVariants as refusal
 use Rattle.am_top.specs.declared.status.Status.{Status}
 use Rattle.am_top.specs.declared.status.Status.TheVariants as status
-use Rattle.am_top.specs.Commands.{Command, Make, Show}
+use Rattle.am_top.specs.declared.words.Command.{Command}
+use Rattle.am_top.specs.declared.words.Command.TheVariants.{Make, Theory as TheoryCommand}
+use Rattle.am_top.specs.Answers.{Prints, Refuses, CannotRead, IsAnswerOf, IsUnread, CountsFaults, status_at, status_of, text_of, message_of}
+use Rattle.am_top.specs.Clauses.{WhereMade, WhereShown, AreFiles, IsMade, SaysTheoryFault, SaysFaultOver, SaysDiagramFault, HasAxioms, IsUnbuilt}
+use Rattle.am_top.specs.Commands.{AllSure, IsTheory, IsDiagram, HasAnswer, TheoryOf, DiagramOf, Makes, Shows}
 use Rattle.am_top.specs.Direct.{IsDirect}
-use Rattle.am_top.specs.Answers.{WhereMade, WhereShown, WordsAnswer, MakeAnswer, ShowAnswer, IsTheory, IsMade, MakesText, ShowsText, IsTheoryFault, IsDiagramFault, IsUnread, status_of, text_of, message_of}
+use Rattle.am_top.specs.Steps.{FromDiagram, TheText}
+use Rattle.am_top.proofs.Chains.{BehindTheory}
 use Rattle.am_top.proofs.Premises.{theories_well_formed, diagrams_well_formed, plans_give_answers}
 use Rattle.am_top.proofs.SameContents.{same_theory}
 use Rattle.am_top.proofs.DirectRight.{direct-meets}
+use Rattle.am_top.proofs.TooLong.{long_theory, long_diagram, theory-long, diagram-long}
 
 -- ---- one answer
 
@@ -42,80 +54,128 @@ one_theory a t u h k = same_theory t u (ok_once (contents t) (contents u) (theor
 other_theory : (b : List ℕ) (t u : TheoryValue) (r : Result DiagramValue DiagramFault) → u ≡ t → diagram u b ≡ r → diagram t b ≡ r
 other_theory b t u r e h = subst (λ (x : TheoryValue). diagram x b ≡ r) e h
 
--- ---- the answer of each command
+-- ---- ends of a chain
 
-make_answer : (command : Option Command) (told : List ℕ → Option (List ℕ)) (answer : Answer) (first second : List ℕ) → WordsAnswer command told answer → command ≡ Some (Make first second) → MakeAnswer (told first) (told second) answer
-make_answer command told answer first second h e = subst (λ (c : Option Command). WordsAnswer c told answer) e h
+unread_status : (f : File) (answer : Answer) → CannotRead f answer → (status_of answer ≡ status.Read) × IsUnread answer
+unread_status f (Text text) h = absurd h
+unread_status f Usage h = absurd h
+unread_status f (Refused r message) h = absurd h
+unread_status f (Unread g) h = (refl, tt)
+unread_status f NoMemory h = absurd h
 
-show_answer : (command : Option Command) (told : List ℕ → Option (List ℕ)) (answer : Answer) (first : List ℕ) → WordsAnswer command told answer → command ≡ Some (Show first) → ShowAnswer (told first) answer
-show_answer command told answer first h e = subst (λ (c : Option Command). WordsAnswer c told answer) e h
+refused_status : (r : Refusal) (says : List ℕ) (answer : Answer) → Refuses r says answer → (status_of answer ≡ status_at r) × (message_of answer ≡ says)
+refused_status r says (Text text) h = absurd h
+refused_status r says Usage h = absurd h
+refused_status r says (Refused s message) h = (ap status_at h.0, h.1)
+refused_status r says (Unread g) h = absurd h
+refused_status r says NoMemory h = absurd h
 
--- an answer with the status of success is a text
-made_text : (first second : Option (List ℕ)) (answer : Answer) (a b : List ℕ) → MakeAnswer first second answer → status_of answer ≡ status.Ok → first ≡ Some a → second ≡ Some b → MakesText a b (text_of answer)
-made_text first second (Text text) a b h e ea eb = h a ea b eb
-made_text first second Usage a b h e ea eb = absurd h
-made_text first second (Fault f message) a b h e ea eb = absurd cc
-made_text first second (NotBuilt f) a b h e ea eb = absurd cc
-made_text first second (Unread f) a b h e ea eb = absurd cc
-made_text first second NoMemory a b h e ea eb = absurd cc
+printed_status : (Is : List ℕ → Type 0) (answer : Answer) → Prints Is answer → (status_of answer ≡ status.Ok) × Is (text_of answer)
+printed_status Is (Text text) h = (refl, h)
+printed_status Is Usage h = absurd h
+printed_status Is (Refused s message) h = absurd h
+printed_status Is (Unread g) h = absurd h
+printed_status Is NoMemory h = absurd h
 
-shown_text : (first : Option (List ℕ)) (answer : Answer) (a : List ℕ) → ShowAnswer first answer → status_of answer ≡ status.Ok → first ≡ Some a → ShowsText a (text_of answer)
-shown_text first (Text text) a h e ea = h a ea
-shown_text first Usage a h e ea = absurd h
-shown_text first (Fault f message) a h e ea = absurd cc
-shown_text first (NotBuilt f) a h e ea = absurd cc
-shown_text first (Unread f) a h e ea = absurd cc
-shown_text first NoMemory a h e ea = absurd cc
+-- ---- what came of a command, where its files are told
 
--- one with the status of a file's fault is its message
-made_fault : (first second : Option (List ℕ)) (answer : Answer) (a b : List ℕ) → MakeAnswer first second answer → status_of answer ≡ status.File → first ≡ Some a → second ≡ Some b → IsTheoryFault a (message_of answer) ⊎ IsDiagramFault a b (message_of answer)
-made_fault first second (Text text) a b h e ea eb = absurd cc
-made_fault first second Usage a b h e ea eb = absurd h
-made_fault first second (Fault Theory message) a b h e ea eb = inl (h a ea)
-made_fault first second (Fault Diagram message) a b h e ea eb = inr (h a ea b eb)
-made_fault first second (NotBuilt f) a b h e ea eb = absurd cc
-made_fault first second (Unread f) a b h e ea eb = absurd cc
-made_fault first second NoMemory a b h e ea eb = absurd cc
+-- the answer has this status, and says this
+record Says (s : Status) (text : List ℕ) (answer : Answer) : Type 0 where
+  pub status : status_of answer ≡ s
+  pub message : message_of answer ≡ text
 
-shown_fault : (first : Option (List ℕ)) (answer : Answer) (a : List ℕ) → ShowAnswer first answer → status_of answer ≡ status.File → first ≡ Some a → IsTheoryFault a (message_of answer)
-shown_fault first (Text text) a h e ea = absurd cc
-shown_fault first Usage a h e ea = absurd h
-shown_fault first (Fault Theory message) a h e ea = h a ea
-shown_fault first (Fault Diagram message) a h e ea = absurd h
-shown_fault first (NotBuilt f) a h e ea = absurd cc
-shown_fault first (Unread f) a h e ea = absurd cc
-shown_fault first NoMemory a h e ea = absurd cc
+-- a file can't be read, and isn't sure
+record IsLost (sure : Type 0) (answer : Answer) : Type 0 where
+  pub status : status_of answer ≡ status.Read
+  pub unread : IsUnread answer
+  pub unsure : sure → ⊥
 
--- ---- files that make a text
+-- the unit is printed
+record HasMade (a b : List ℕ) (answer : Answer) : Type 0 where
+  pub status : status_of answer ≡ status.Ok
+  pub of_theory : TheoryValue
+  pub of_diagram : DiagramValue
+  pub terms : List Term
+  pub unit : Subroutine
+  pub made : IsMade a b of_theory of_diagram terms unit
+  pub is : text_of answer ≡ unit_text unit
 
--- are refused for want of memory or for a fault of the library alone
-not_refused : (first second : Option (List ℕ)) (answer : Answer) (a b : List ℕ) (t : TheoryValue) (d : DiagramValue) (terms : List Term) (u : Subroutine) → MakeAnswer first second answer → first ≡ Some a → second ≡ Some b → IsMade a b t d terms u
-    → (IsUnread answer → ⊥) → (status_of answer ≡ status.Ok) ⊎ (status_of answer ≡ status.NoMemory)
-not_refused first second (Text text) a b t d terms u h ea eb m r = inl refl
-not_refused first second Usage a b t d terms u h ea eb m r = absurd h
-not_refused first second (Fault Theory message) a b t d terms u h ea eb m r = let n = h a ea in absurd (never_both (contents t) n.fault (theory a) m.is_theory n.read)
-not_refused first second (Fault Diagram message) a b t d terms u h ea eb m r =
-    let n = h a ea b eb in
-    absurd (never_both d n.fault (diagram t b) m.is_diagram (other_theory b t n.of_theory (Err n.fault) (one_theory a n.of_theory t n.read_theory m.is_theory) n.read))
-not_refused first second (NotBuilt Theory) a b t d terms u h ea eb m r =
-    let n = h a ea in
-    absurd (n.some (ap (λ (x : TheoryValue). x.axioms) (one_theory a n.of_theory t n.read m.is_theory) ∙ m.no_axioms))
-not_refused first second (NotBuilt Diagram) a b t d terms u h ea eb m r =
-    let n = h a ea b eb in
-    let e : n.of_theory ≡ t = one_theory a n.of_theory t n.read_theory m.is_theory in
-    let same : n.of_diagram ≡ d = ok_once n.of_diagram d (diagram t b) (other_theory b t n.of_theory (Ok n.of_diagram) e n.read) m.is_diagram in
-    absurd (n.none terms (subst (λ (x : TheoryValue). IsDirect x n.of_diagram terms) (sym e) (subst (λ (x : DiagramValue). IsDirect t x terms) (sym same) m.direct)))
-not_refused first second (Unread f) a b t d terms u h ea eb m r = absurd (r tt)
-not_refused first second NoMemory a b t d terms u h ea eb m r = inr refl
+-- the canonical text is printed
+record HasShown (a : List ℕ) (answer : Answer) : Type 0 where
+  pub status : status_of answer ≡ status.Ok
+  pub of_contents : Contents
+  pub read : theory a ≡ Ok of_contents
+  pub is : text_of answer ≡ canon of_contents
 
-show_not_refused : (first : Option (List ℕ)) (answer : Answer) (a : List ℕ) (c : Contents) → ShowAnswer first answer → first ≡ Some a → theory a ≡ Ok c → (IsUnread answer → ⊥) → (status_of answer ≡ status.Ok) ⊎ (status_of answer ≡ status.NoMemory)
-show_not_refused first (Text text) a c h ea m r = inl refl
-show_not_refused first Usage a c h ea m r = absurd h
-show_not_refused first (Fault Theory message) a c h ea m r = let n = h a ea in absurd (never_both c n.fault (theory a) m n.read)
-show_not_refused first (Fault Diagram message) a c h ea m r = absurd h
-show_not_refused first (NotBuilt f) a c h ea m r = absurd h
-show_not_refused first (Unread f) a c h ea m r = absurd (r tt)
-show_not_refused first NoMemory a c h ea m r = inr refl
+module _ (told : Option (List ℕ)) (sure : Type 0) (a : List ℕ) (ea : told ≡ Some a) (answer : Answer) where
+  theory_case : (next : TheoryValue → Answer → Type 0) → TheoryOf told sure next answer
+      → IsLost sure answer ⊎ (((message : List ℕ) × SaysTheoryFault a message × Says status.File message answer) ⊎ ((t : TheoryValue) × IsTheory a t × next t answer))
+  theory_case next (inl (inl (unread, unsure))) = let s = unread_status Theory answer unread in inl (record { status = s.0; unread = s.1; unsure = unsure })
+  theory_case next (inl (inr (refused, long))) = let s = refused_status refusal.File _ answer refused in inr (inl (_, inl (long a ea, refl), record { status = s.0; message = s.1 }))
+  theory_case next (inr (bytes, loaded, inl (f, is, refused))) =
+      let s = refused_status refusal.File _ answer refused in
+      inr (inl (_, inr (f, subst (λ (x : List ℕ). theory x ≡ Err f) (loaded.same a ea) is, refl), record { status = s.0; message = s.1 }))
+  theory_case next (inr (bytes, loaded, inr (t, is, after))) = inr (inr (t, subst (λ (x : List ℕ). IsTheory x t) (loaded.same a ea) is, after))
+
+  diagram_case : (t : TheoryValue) (next : DiagramValue → Answer → Type 0) → DiagramOf t told sure next answer
+      → IsLost sure answer ⊎ (((message : List ℕ) × SaysFaultOver t a message × Says status.File message answer) ⊎ ((d : DiagramValue) × IsDiagram t a d × next d answer))
+  diagram_case t next (inl (inl (unread, unsure))) = let s = unread_status Diagram answer unread in inl (record { status = s.0; unread = s.1; unsure = unsure })
+  diagram_case t next (inl (inr (refused, long))) = let s = refused_status refusal.File _ answer refused in inr (inl (_, inl (long a ea, refl), record { status = s.0; message = s.1 }))
+  diagram_case t next (inr (bytes, loaded, inl (f, is, refused))) =
+      let s = refused_status refusal.File _ answer refused in
+      inr (inl (_, inr (f, subst (λ (x : List ℕ). diagram t x ≡ Err f) (loaded.same a ea) is, refl), record { status = s.0; message = s.1 }))
+  diagram_case t next (inr (bytes, loaded, inr (d, is, after))) = inr (inr (d, subst (λ (x : List ℕ). IsDiagram t x d) (loaded.same a ea) is, after))
+
+-- what `make` comes to
+data Made (a b : List ℕ) (sure : Type 0) (answer : Answer) : Type 0 where
+  lost : IsLost sure answer → Made a b sure answer
+  no_memory : status_of answer ≡ status.NoMemory → (IsUnread answer → ⊥) → Made a b sure answer
+  faulty : (message : List ℕ) → SaysTheoryFault a message ⊎ SaysDiagramFault a b message → Says status.File message answer → Made a b sure answer
+  unbuilt : HasAxioms a ⊎ IsUnbuilt a b → status_of answer ≡ status.NotBuilt → Made a b sure answer
+  printed : HasMade a b answer → Made a b sure answer
+
+-- what `theory` comes to
+data Shown (a : List ℕ) (sure : Type 0) (answer : Answer) : Type 0 where
+  lost : IsLost sure answer → Shown a sure answer
+  no_memory : status_of answer ≡ status.NoMemory → (IsUnread answer → ⊥) → Shown a sure answer
+  faulty : (message : List ℕ) → SaysTheoryFault a message → Says status.File message answer → Shown a sure answer
+  printed : HasShown a answer → Shown a sure answer
+
+module _ (told : List ℕ → Option (List ℕ)) (sure : List ℕ → Type 0) (answer : Answer) where
+  abbrev BothSure : List ℕ → List ℕ → Type 0
+  BothSure first second = sure first × sure second
+
+  make_case : (first second a b : List ℕ) → told first ≡ Some a → told second ≡ Some b → IsAnswerOf (Makes told sure first second) answer → Made a b (BothSure first second) answer
+  make_case first second a b ea eb (inl none) = no_memory (ap status_of none) (λ u. subst IsUnread none u)
+  make_case first second a b ea eb (inr h) = elim (theory_case (told first) (sure first) a ea answer (BehindTheory told sure first second) h) [
+    | inl l ↦ lost (record { status = l.status; unread = l.unread; unsure = λ s. l.unsure s.0 })
+    | inr (inl (message, says, is)) ↦ faulty message (inl says) is
+    | inr (inr (t, is_theory, inl (some, refused))) ↦ unbuilt (inl (t, is_theory, some)) (refused_status refusal.NotBuilt _ answer refused).0
+    | inr (inr (t, is_theory, inr (plain, after))) ↦ elim (diagram_case (told second) (sure second) b eb answer t (FromDiagram t) after) [
+      | inl l ↦ lost (record { status = l.status; unread = l.unread; unsure = λ s. l.unsure s.1 })
+      | inr (inl (message, says, is)) ↦ faulty message (inr (t, is_theory, plain, says)) is
+      | inr (inr (d, is_diagram, inl (none, refused))) ↦ unbuilt (inr (t, d, is_theory, plain, is_diagram, none)) (refused_status refusal.NotBuilt _ answer refused).0
+      | inr (inr (d, is_diagram, inr (terms, direct, prints))) ↦
+          let p = printed_status _ answer prints in
+          printed (record {
+            status = p.0;
+            of_theory = t;
+            of_diagram = d;
+            terms = terms;
+            unit = p.1.0;
+            made = record { files = record { is_theory = is_theory; no_axioms = plain; is_diagram = is_diagram; direct = direct }; plan = p.1.1 };
+            is = p.1.2;
+          })
+    ]
+  ]
+
+  show_case : (first a : List ℕ) → told first ≡ Some a → IsAnswerOf (Shows told sure first) answer → Shown a (sure first) answer
+  show_case first a ea (inl none) = no_memory (ap status_of none) (λ u. subst IsUnread none u)
+  show_case first a ea (inr h) = elim (theory_case (told first) (sure first) a ea answer TheText h) [
+    | inl l ↦ lost l
+    | inr (inl (message, says, is)) ↦ faulty message says is
+    | inr (inr (t, is_theory, prints)) ↦ let p = printed_status _ answer prints in printed (record { status = p.0; of_contents = contents t; read = is_theory; is = p.1 })
+  ]
 
 -- ---- the status of a run
 
@@ -133,49 +193,141 @@ by_status answer result (inl e) no_write (inl ok) = inl (e ∙ ok)
 by_status answer result (inl e) no_write (inr none) = inr (e ∙ none)
 by_status answer result (inr w) no_write s = absurd (no_write w)
 
+-- two statuses of one answer
+abbrev Clash : Answer → Status → Status → Type 0
+Clash answer s r = status_of answer ≡ s → status_of answer ≡ r → s ≡ r
+
+clash : (answer : Answer) (s r : Status) → Clash answer s r
+clash answer s r h k = sym h ∙ k
+
+-- ---- files that have no fault
+
+no_fault_of : (a : List ℕ) (c : Contents) (message : List ℕ) → theory a ≡ Ok c → SaysTheoryFault a message → ⊥
+no_fault_of a c message is (inl (long, says)) = never_both c long_theory (theory a) is (theory-long a long)
+no_fault_of a c message is (inr (f, err, says)) = never_both c f (theory a) is err
+
+no_theory_fault : (a : List ℕ) (t : TheoryValue) (message : List ℕ) → IsTheory a t → SaysTheoryFault a message → ⊥
+no_theory_fault a t message is says = no_fault_of a (contents t) message is says
+
+no_fault_over : (b : List ℕ) (t : TheoryValue) (d : DiagramValue) (message : List ℕ) → IsDiagram t b d → SaysFaultOver t b message → ⊥
+no_fault_over b t d message is (inl (long, says)) = never_both d long_diagram (diagram t b) is (diagram-long t b long)
+no_fault_over b t d message is (inr (f, err, says)) = never_both d f (diagram t b) is err
+
+no_diagram_fault : (a b : List ℕ) (t : TheoryValue) (d : DiagramValue) (message : List ℕ) → IsTheory a t → IsDiagram t b d → SaysDiagramFault a b message → ⊥
+no_diagram_fault a b t d message is is_d (u, is_u, plain, says) = no_fault_over b u d message (subst (λ (x : TheoryValue). IsDiagram x b d) (one_theory a t u is is_u) is_d) says
+
+-- a diagram that is direct over a theory is so over the one that was read
+direct_after : (a b : List ℕ) (t u : TheoryValue) (d c : DiagramValue) (terms : List Term) → AreFiles a b t d terms → IsTheory a u → IsDiagram u b c → ((answer : List Term) → IsDirect u c answer → ⊥) → ⊥
+direct_after a b t u d c terms m is is_c none =
+    let one = one_theory a t u m.is_theory is in
+    let same : d ≡ c = ok_once d c (diagram u b) (subst (λ (x : TheoryValue). IsDiagram x b d) one m.is_diagram) is_c in
+    none terms (subst (λ (y : DiagramValue). IsDirect u y terms) same (subst (λ (x : TheoryValue). IsDirect x d terms) one m.direct))
+
 -- ---- clauses of a run
 
 pub right_from : (w : Interpretation) (a b : List ℕ) (t : TheoryValue) (d : DiagramValue) (terms : List Term) (u : Subroutine) → IsMade a b t d terms u → IsWorld t.sig w → Right w t d u
 right_from w a b t d terms u m world =
-    let well = theories_well_formed a t m.is_theory in
-    units-right w t d u terms well (plans_give_answers t d terms u well (diagrams_well_formed t b d well m.is_diagram) m.direct.terms m.plan) (λ ins given. direct-meets w t d terms ins m.direct world given)
+    let well = theories_well_formed a t m.files.is_theory in
+    units-right w t d u terms well (plans_give_answers t d terms u well (diagrams_well_formed t b d well m.files.is_diagram) m.files.direct.terms m.plan) (λ ins given. (numbered [], direct-meets w t d terms ins m.files.direct world given))
 
-module _ (command : Option Command) (told : List ℕ → Option (List ℕ)) (answer : Answer) (result : Status) (has : WordsAnswer command told answer) (ran : Ran answer result) where
+module _ (told : List ℕ → Option (List ℕ)) (sure : List ℕ → Type 0) (command : Option Command) (answer : Answer) (result : Status) (has : HasAnswer told sure command answer) (ran : Ran answer result) where
+  made_at : (first second a b : List ℕ) → command ≡ Some (Make first second) → told first ≡ Some a → told second ≡ Some b → Made a b (sure first × sure second) answer
+  made_at first second a b e ea eb = make_case told sure answer first second a b ea eb (subst (λ (c : Option Command). HasAnswer told sure c answer) e has)
+
+  shown_at : (first a : List ℕ) → command ≡ Some (TheoryCommand first) → told first ≡ Some a → Shown a (sure first) answer
+  shown_at first a e ea = show_case told sure answer first a ea (subst (λ (c : Option Command). HasAnswer told sure c answer) e has)
+
   pub printed_from : (old new : Option (List ℕ)) → (result ≢ status.Write → Grows old new (text_of answer)) → result ≡ status.Ok
       → WhereMade command told (λ a b. (t : TheoryValue) × (d : DiagramValue) × (terms : List Term) × (u : Subroutine) × IsMade a b t d terms u × Grows old new (unit_text u))
   printed_from old new grown ok first second a b e ea eb =
-      let m = made_text (told first) (told second) answer a b (make_answer command told answer first second has e) (of_answer answer result status.Ok ran ok (λ w. cc)) ea eb in
+      let s = of_answer answer result status.Ok ran ok (λ w. cc) in
       let other : result ≢ status.Write = λ w. cc in
-      (m.of_theory, m.of_diagram, m.answer, m.unit, m.made, subst (Grows old new) m.is (grown other))
+      elim (made_at first second a b e ea eb) [
+        | lost l ↦ let c = clash answer _ _ s l.status in absurd cc
+        | no_memory n r ↦ let c = clash answer _ _ s n in absurd cc
+        | faulty m h is ↦ let c = clash answer _ _ s is.status in absurd cc
+        | unbuilt h n ↦ let c = clash answer _ _ s n in absurd cc
+        | printed p ↦ (p.of_theory, p.of_diagram, p.terms, p.unit, p.made, subst (Grows old new) p.is (grown other))
+      ]
 
   pub shown_from : (old new : Option (List ℕ)) → (result ≢ status.Write → Grows old new (text_of answer)) → result ≡ status.Ok
       → WhereShown command told (λ a. (c : Contents) × (theory a ≡ Ok c) × Grows old new (canon c))
   shown_from old new grown ok first a e ea =
-      let m = shown_text (told first) answer a (show_answer command told answer first has e) (of_answer answer result status.Ok ran ok (λ w. cc)) ea in
+      let s = of_answer answer result status.Ok ran ok (λ w. cc) in
       let other : result ≢ status.Write = λ w. cc in
-      (m.of_contents, m.read, subst (Grows old new) m.is (grown other))
+      elim (shown_at first a e ea) [
+        | lost l ↦ let c = clash answer _ _ s l.status in absurd cc
+        | no_memory n r ↦ let c = clash answer _ _ s n in absurd cc
+        | faulty m h is ↦ let c = clash answer _ _ s is.status in absurd cc
+        | printed p ↦ (p.of_contents, p.read, subst (Grows old new) p.is (grown other))
+      ]
 
   pub file_of_make_from : (old new : Option (List ℕ)) → (result ≢ status.Write → Grows old new (message_of answer)) → result ≡ status.File
-      → WhereMade command told (λ a b. (message : List ℕ) × (IsTheoryFault a message ⊎ IsDiagramFault a b message) × Grows old new message)
+      → WhereMade command told (λ a b. (message : List ℕ) × (SaysTheoryFault a message ⊎ SaysDiagramFault a b message) × Grows old new message)
   file_of_make_from old new grown is first second a b e ea eb =
+      let s = of_answer answer result status.File ran is (λ w. cc) in
       let other : result ≢ status.Write = λ w. cc in
-      (message_of answer, made_fault (told first) (told second) answer a b (make_answer command told answer first second has e) (of_answer answer result status.File ran is (λ w. cc)) ea eb, grown other)
+      elim (made_at first second a b e ea eb) [
+        | lost l ↦ let c = clash answer _ _ s l.status in absurd cc
+        | no_memory n r ↦ let c = clash answer _ _ s n in absurd cc
+        | faulty m h f ↦ (m, h, subst (Grows old new) f.message (grown other))
+        | unbuilt h n ↦ let c = clash answer _ _ s n in absurd cc
+        | printed p ↦ let c = clash answer _ _ s p.status in absurd cc
+      ]
 
   pub file_of_theory_from : (old new : Option (List ℕ)) → (result ≢ status.Write → Grows old new (message_of answer)) → result ≡ status.File
-      → WhereShown command told (λ a. (message : List ℕ) × IsTheoryFault a message × Grows old new message)
+      → WhereShown command told (λ a. (message : List ℕ) × SaysTheoryFault a message × Grows old new message)
   file_of_theory_from old new grown is first a e ea =
+      let s = of_answer answer result status.File ran is (λ w. cc) in
       let other : result ≢ status.Write = λ w. cc in
-      (message_of answer, shown_fault (told first) answer a (show_answer command told answer first has e) (of_answer answer result status.File ran is (λ w. cc)) ea, grown other)
+      elim (shown_at first a e ea) [
+        | lost l ↦ let c = clash answer _ _ s l.status in absurd cc
+        | no_memory n r ↦ let c = clash answer _ _ s n in absurd cc
+        | faulty m h f ↦ (m, h, subst (Grows old new) f.message (grown other))
+        | printed p ↦ let c = clash answer _ _ s p.status in absurd cc
+      ]
+
+  pub not_built_from : result ≡ status.NotBuilt → WhereMade command told (λ a b. HasAxioms a ⊎ IsUnbuilt a b)
+  not_built_from is first second a b e ea eb =
+      let s = of_answer answer result status.NotBuilt ran is (λ w. cc) in
+      elim (made_at first second a b e ea eb) [
+        | lost l ↦ let c = clash answer _ _ s l.status in absurd cc
+        | no_memory n r ↦ let c = clash answer _ _ s n in absurd cc
+        | faulty m h f ↦ let c = clash answer _ _ s f.status in absurd cc
+        | unbuilt h n ↦ h
+        | printed p ↦ let c = clash answer _ _ s p.status in absurd cc
+      ]
+
+  pub built_from : result ≡ status.NotBuilt → WhereShown command told (λ a. ⊥)
+  built_from is first a e ea =
+      let s = of_answer answer result status.NotBuilt ran is (λ w. cc) in
+      elim (shown_at first a e ea) [
+        | lost l ↦ let c = clash answer _ _ s l.status in absurd cc
+        | no_memory n r ↦ let c = clash answer _ _ s n in absurd cc
+        | faulty m h f ↦ let c = clash answer _ _ s f.status in absurd cc
+        | printed p ↦ let c = clash answer _ _ s p.status in absurd cc
+      ]
 
   module _ (RoseL RoseO RoseE : Type 0) (unread : IsUnread answer → RoseL) (write : result ≡ status.Write → RoseO ⊎ RoseE) (calm_l : RoseL → ⊥) (calm_o : RoseO → ⊥) (calm_e : RoseE → ⊥) where
     no_write : result ≡ status.Write → ⊥
     no_write w = elim (write w) [ inl r ↦ calm_o r | inr r ↦ calm_e r ]
 
-    pub complete_at : (first second a b : List ℕ) → command ≡ Some (Make first second) → told first ≡ Some a → told second ≡ Some b → (t : TheoryValue) (d : DiagramValue) (terms : List Term) (u : Subroutine) → IsMade a b t d terms u
+    pub complete_at : (first second a b : List ℕ) → command ≡ Some (Make first second) → told first ≡ Some a → told second ≡ Some b → (t : TheoryValue) (d : DiagramValue) (terms : List Term) → AreFiles a b t d terms
         → (result ≡ status.Ok) ⊎ (result ≡ status.NoMemory)
-    complete_at first second a b e ea eb t d terms u m =
-        by_status answer result ran no_write (not_refused (told first) (told second) answer a b t d terms u (make_answer command told answer first second has e) ea eb m (λ r. calm_l (unread r)))
+    complete_at first second a b e ea eb t d terms m = by_status answer result ran no_write (elim (made_at first second a b e ea eb) [
+      | lost l ↦ absurd (calm_l (unread l.unread))
+      | no_memory n r ↦ inr n
+      | faulty message (inl says) is ↦ absurd (no_theory_fault a t message m.is_theory says)
+      | faulty message (inr says) is ↦ absurd (no_diagram_fault a b t d message m.is_theory m.is_diagram says)
+      | unbuilt (inl (u, is, some)) n ↦ absurd (some (subst (λ (x : TheoryValue). x.axioms ≡ []) (one_theory a t u m.is_theory is) m.no_axioms))
+      | unbuilt (inr (u, c, is, plain, is_c, none)) n ↦ absurd (direct_after a b t u d c terms m is is_c none)
+      | printed p ↦ inl p.status
+    ])
 
-    pub complete_theory_at : (first a : List ℕ) → command ≡ Some (Show first) → told first ≡ Some a → (c : Contents) → theory a ≡ Ok c → (result ≡ status.Ok) ⊎ (result ≡ status.NoMemory)
-    complete_theory_at first a e ea c m =
-        by_status answer result ran no_write (show_not_refused (told first) answer a c (show_answer command told answer first has e) ea m (λ r. calm_l (unread r)))
+    pub complete_theory_at : (first a : List ℕ) → command ≡ Some (TheoryCommand first) → told first ≡ Some a → (c : Contents) → theory a ≡ Ok c → (result ≡ status.Ok) ⊎ (result ≡ status.NoMemory)
+    complete_theory_at first a e ea c m = by_status answer result ran no_write (elim (shown_at first a e ea) [
+      | lost l ↦ absurd (calm_l (unread l.unread))
+      | no_memory n r ↦ inr n
+      | faulty message says is ↦ absurd (no_fault_of a c message m says)
+      | printed p ↦ inl p.status
+    ])

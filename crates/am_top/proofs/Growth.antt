@@ -1,11 +1,16 @@
 -- What is held grows by one part of a text after another.
-use Rattle.std.proofs.Common.{◌≡◌, ◌∙◌, ◌+◌, ℕ, List, [], ◌∷◌, ◌++◌, min, take, drop, refl, ap, sym, append_assoc, arith, None, Some, Option, length}
+use Rattle.std.proofs.Common.{◌≡◌, ◌∙◌, ◌+◌, ℕ, List, [], ◌∷◌, ◌++◌, min, take, drop, refl, ap, sym, subst, append_assoc, arith, None, Some, Option, length, true≢false, Bool, true, false, inl, inr, ◌⊎◌}
 use Rattle.std.specs.Io.KnownBytes.{append_known}
 use Rattle.std.proofs.Math.Seq.{take-add}
 use Rattle.std.proofs.lemmas.Grind.{common_steps}
 use Rattle.std.proofs.lemmas.Bool.Decides.{nat_tests}
 use Rattle.std.proofs.lemmas.List.Folds.{list_all_more}
+use Rattle.am_outside.specs.Causes.{Rose}
 use Rattle.am_outside.specs.Growth.{Grows, GrowsByPart}
+use Rattle.am_top.specs.declared.answer.Answer.{Answer}
+use Rattle.am_top.specs.declared.answer.Answer.TheVariants.{Usage}
+use Rattle.am_top.specs.Answers.{Page, Failed, is_text, message_of}
+use Rattle.am_top.specs.Messages.{usage}
 
 -- two parts are one
 pub append_known-append_known : (h : Option (List ℕ)) (a b : List ℕ) → append_known (append_known h a) b ≡ append_known h (a ++ b)
@@ -49,6 +54,23 @@ grows_nothing (Some held) = ap Some (sym (append_nil held))
     append_nil : (xs : List ℕ) → xs ++ [] ≡ xs
     append_nil [] = refl
     append_nil (x ∷ xs) = ap (λ r. x ∷ r) (append_nil xs)
+
+-- where the answer could not be put, one of the pages had a fault
+pub rose_where_failed : (answer : Answer) (out out_new err err_new : Page) → Failed answer out out_new err err_new → Rose out.faults out_new.faults ⊎ Rose err.faults err_new.faults
+rose_where_failed answer out out_new err err_new f = by_kind (is_text answer) refl
+  where
+    by_kind : (b : Bool) → is_text answer ≡ b → Rose out.faults out_new.faults ⊎ Rose err.faults err_new.faults
+    by_kind true e = inl (f.2 e).0
+    by_kind false e = inr (f.3 e).0
+
+-- the message of an answer was put
+pub message_put : (answer said : Answer) (old new : Option (List ℕ)) → answer ≡ said → Grows old new (message_of said) → Grows old new (message_of answer)
+message_put answer said old new is grown = subst (λ (a : Answer). Grows old new (message_of a)) (sym is) grown
+
+-- where the usage could not be put, nothing else was
+pub usage_failed : (answer : Answer) (out err err_new : Page) → answer ≡ Usage → GrowsByPart err.held err_new.held usage → Rose err.faults err_new.faults → Failed answer out out err err_new
+usage_failed answer out err err_new is part rose =
+    subst (λ (a : Answer). Failed a out out err err_new) (sym is) (grows_by_none out.held [], part, (λ text. absurd (true≢false (sym text))), (λ none. (rose, refl, refl)))
 
 pub ruleset line_laws = (common_steps, nat_tests, list_all_more)
 

@@ -1,7 +1,7 @@
 pub mod Commands
 pub mod DirectRight
 pub mod Directness
-pub mod FileAnswers
+pub mod Chains
 pub mod Growth
 pub mod Premises
 pub mod SameContents

@@ -1,9 +1,9 @@
 pub mod Answers
+pub mod Clauses
 pub mod Codes
 pub mod Commands
 pub mod Direct
 pub mod DirectTests
 pub mod Messages
-pub mod Requests
 pub mod Steps
 pub mod Words

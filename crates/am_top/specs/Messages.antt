@@ -1,4 +1,4 @@
--- What is said of a file that has a fault.
+-- What is said where no text is printed.
 use Rattle.std.specs.Prelude.{◌++◌, ℕ, List, [], ◌∷◌, codes}
 use Rattle.std.specs.Fmt.{decimal}
 use Rattle.am_text.specs.declared.fault.TextKind.{TextKind}
@@ -9,6 +9,8 @@ use Rattle.am_theory.specs.declared.fault.TheoryFault.{TheoryFault}
 use Rattle.am_diagram.specs.declared.fault.DiagramKind.{DiagramKind}
 use Rattle.am_diagram.specs.declared.fault.DiagramKind.TheVariants as diagram
 use Rattle.am_diagram.specs.declared.fault.DiagramFault.{DiagramFault}
+use Rattle.am_top.specs.declared.answer.File.{File}
+use Rattle.am_top.specs.declared.answer.File.TheVariants as file
 
 -- the words of each kind of fault
 abbrev pub text_words : TextKind → List ℕ
@@ -53,34 +55,41 @@ diagram_words diagram.NoOutput = codes "no output"
 diagram_words diagram.NoRequire = codes "no requirement"
 diagram_words diagram.NoMemory = codes "no memory"
 
+-- the word by which a message names a file
+abbrev pub word_of : File → List ℕ
+word_of file.Theory = codes "theory"
+word_of file.Diagram = codes "diagram"
+
 -- `amphion: FILE: byte P: KIND`
-abbrev pub at_byte : List ℕ → ℕ → List ℕ → List ℕ
-at_byte file place words = codes "amphion: " ++ file ++ codes ": byte " ++ decimal place ++ codes ": " ++ words ++ 10 ∷ []
+abbrev pub at_byte : File → ℕ → List ℕ → List ℕ
+at_byte f place words = codes "amphion: " ++ word_of f ++ codes ": byte " ++ decimal place ++ codes ": " ++ words ++ 10 ∷ []
 
 -- `amphion: FILE: longer than LIMIT bytes`
-abbrev pub longer : List ℕ → List ℕ
-longer file = codes "amphion: " ++ file ++ codes ": longer than 1048576 bytes" ++ 10 ∷ []
+abbrev pub longer : File → ℕ → List ℕ
+longer f limit = codes "amphion: " ++ word_of f ++ codes ": longer than " ++ decimal limit ++ codes " bytes" ++ 10 ∷ []
 
--- a fault of the text by its place and words, but a file that is too long has a message of its own
-abbrev pub text_message : List ℕ → ℕ → TextKind → List ℕ
-text_message file place text.TooLong = longer file
-text_message file place text.BadByte = at_byte file place (text_words text.BadByte)
-text_message file place text.Unclosed = at_byte file place (text_words text.Unclosed)
-text_message file place text.Unopened = at_byte file place (text_words text.Unopened)
-text_message file place text.TooDeep = at_byte file place (text_words text.TooDeep)
-text_message file place text.BadAtom = at_byte file place (text_words text.BadAtom)
-text_message file place text.NoMemory = at_byte file place (text_words text.NoMemory)
-
-abbrev pub theory_kind_message : ℕ → TheoryKind → List ℕ
-theory_kind_message place (theory.Text k) = text_message (codes "theory") place k
-theory_kind_message place k = at_byte (codes "theory") place (theory_words k)
-
-abbrev pub diagram_kind_message : ℕ → DiagramKind → List ℕ
-diagram_kind_message place (diagram.Text k) = text_message (codes "diagram") place k
-diagram_kind_message place k = at_byte (codes "diagram") place (diagram_words k)
-
+-- a fault by its place and the words of its kind
 unfoldable pub theory_message : TheoryFault → List ℕ
-theory_message f = theory_kind_message f.place f.kind
+theory_message f = at_byte file.Theory f.place (theory_words f.kind)
 
 unfoldable pub diagram_message : DiagramFault → List ℕ
-diagram_message f = diagram_kind_message f.place f.kind
+diagram_message f = at_byte file.Diagram f.place (diagram_words f.kind)
+
+-- `amphion: FILE: not built yet`
+abbrev pub not_built : File → List ℕ
+not_built file.Theory = codes "amphion: theory: not built yet" ++ 10 ∷ []
+not_built file.Diagram = codes "amphion: diagram: not built yet" ++ 10 ∷ []
+
+-- `amphion: cannot read FILE`
+abbrev pub cannot_read : File → List ℕ
+cannot_read file.Theory = codes "amphion: cannot read theory" ++ 10 ∷ []
+cannot_read file.Diagram = codes "amphion: cannot read diagram" ++ 10 ∷ []
+
+abbrev pub cannot_write : List ℕ
+cannot_write = codes "amphion: cannot write" ++ 10 ∷ []
+
+abbrev pub no_memory : List ℕ
+no_memory = codes "amphion: no memory" ++ 10 ∷ []
+
+abbrev pub usage : List ℕ
+usage = codes "usage: amphion make THEORY DIAGRAM" ++ 10 ∷ codes "       amphion theory THEORY" ++ 10 ∷ []

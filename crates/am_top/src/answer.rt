@@ -1,8 +1,22 @@
+ghost use Rattle.std.specs.Prelude.{◌≡◌};
+ghost use Rattle.am_top.specs.declared.answer.Answer.TheVariants.{NoMemory as OutOfMemory};
+
+use am_term::NoMemory;
+
 /// One of the files that the words name.
 #[derive(Clone, Copy, Debug, PartialEq, Eq)]
 pub enum File {
     Theory,
     Diagram,
+}
+
+/// Why files have no text to print, beside that they can't be read. Each has its status.
+#[derive(Clone, Copy, Debug, PartialEq, Eq)]
+pub enum Refusal {
+    /// A file is too long or has a fault.
+    File,
+    /// A file is of a kind that isn't built yet.
+    NotBuilt,
 }
 
 /// What words and files come to, before anything is written: the text to print, or why there is none.
@@ -12,12 +26,18 @@ pub enum Answer {
     Text(Vec<u8>),
     /// The words have no reading.
     Usage,
-    /// The file has a fault, and this is the message that says which.
-    Fault(File, Vec<u8>),
-    /// The file is of a kind that isn't built yet.
-    NotBuilt(File),
+    /// The files are refused, and this is the message that says why.
+    Refused(Refusal, Vec<u8>),
     /// The library had a fault at the file.
     Unread(File),
     /// No memory was left.
     NoMemory,
+}
+
+impl From<NoMemory> for Answer {
+    ghost from_gives = { λ _ answer. answer ≡ OutOfMemory };
+
+    fn from(_error: NoMemory) -> Answer {
+        Answer::NoMemory
+    }
 }

@@ -1,138 +1,116 @@
-ghost use Rattle.std.specs.Prelude.{◌≡◌, ◌≢◌, ◌≤◌, ℕ, List, map, string_bytes, MatchResult};
-ghost use Rattle.am_outside.specs.Causes.{Rose};
+ghost use Rattle.std.specs.Prelude.{◌≡◌, ℕ, List, map, string_bytes, MatchResult};
 ghost use Rattle.am_theory.specs.Facts.{WellFormed as WellFormedTheory};
 ghost use Rattle.am_diagram.specs.Facts.{WellFormed};
-ghost use Rattle.am_top.specs.Commands.{reading, AllSure};
-ghost use Rattle.am_top.specs.Answers.{IsLoaded, MakeAnswer, ShowAnswer, WordsAnswer, IsUnread};
-ghost use Rattle.am_top.specs.Steps.{IsTheoryFound, IsDiagramFound, IsUnitText, TheoryRefused, DiagramRefused, TellsTheoryFault, TellsDiagramFault};
+ghost use Rattle.am_top.specs.Answers.{IsAnswerOf, IsUnread, CountsFaults};
+ghost use Rattle.am_top.specs.Commands.{reading, HasAnswer, Makes, Shows};
+ghost use Rattle.am_top.specs.Steps.{FoundTheory, FoundDiagram, NoTheory, NoDiagram, FromDiagram, TellsTheoryFault, TellsDiagramFault};
 
-use crate::answer::{Answer, File};
+use crate::answer::{Answer, File, Refusal};
 use crate::direct::direct_answer;
-use crate::loaded::Loaded;
-use crate::messages::{diagram_message, theory_message};
-use crate::requests::{Request, read_words};
+use crate::loading::load;
+use crate::messages::{diagram_message, not_built, theory_message};
+use crate::words::{Command, read_words};
 use am_canon::write_theory;
 use am_diagram::{Diagram, DiagramFault, DiagramKind, read_diagram};
 use am_fortran::write_unit;
-use am_outside::{Fetched, Library};
+use am_outside::Library;
 use am_plan::plan;
-use am_text::TextKind;
+use am_term::Name;
 use am_theory::{Theory, TheoryFault, TheoryKind, read_theory};
 use std::alloc::Global;
 
-// The fault of a theory file that has more bytes than a file may have.
-const LONG_THEORY: TheoryFault = TheoryFault {
-    place: 1_048_576,
-    kind: TheoryKind::Text(TextKind::TooLong),
-};
-
-// The same of a diagram file.
-const LONG_DIAGRAM: DiagramFault = DiagramFault {
-    place: 1_048_576,
-    kind: DiagramKind::Text(TextKind::TooLong),
-};
+const FILE_LIMIT: usize = 1_048_576;
 
 /// What words come to over the files that they name.
-#[tactic(auto, using(crate::proofs::FileAnswers::answer_laws))]
+#[tactic(auto, using(crate::proofs::Chains::answering))]
 pub fn answer_words<L: Library>(alloc: Global, words: &[String], library: &mut L) -> Answer
-    ensures answer { WordsAnswer (reading (map string_bytes words.now)) (L.told library.old) result }
-    ensures unread { IsUnread result → Rose (L.faults library.old) (L.faults library.new) }
-    ensures kept { (IsUnread result → ⊥) → L.faults library.new ≡ L.faults library.old }
-    ensures later { L.faults library.old ≤ L.faults library.new }
-    ensures sure { AllSure (reading (map string_bytes words.now)) (L.sure library.old) → IsUnread result → ⊥ }
+    ensures answer { HasAnswer (L.told library.old) (L.sure library.old) (reading (map string_bytes words.now)) result }
+    ensures faults { CountsFaults (IsUnread result) (L.faults library.old) (L.faults library.new) }
 {
-    match read_words(words) {
-        Some(Request::Make { theory, diagram }) => answer_make(alloc, library, theory, diagram),
-        Some(Request::Theory { theory }) => answer_theory(alloc, library, theory),
+    let Ok(command) = read_words(alloc, words) else {
+        return Answer::NoMemory;
+    };
+    match &command {
+        Some(Command::Make { theory, diagram }) => match make(alloc, library, theory, diagram) {
+            Ok(text) => Answer::Text(text),
+            Err(answer) => answer,
+        },
+        Some(Command::Theory { theory }) => match show(alloc, library, theory) {
+            Ok(text) => Answer::Text(text),
+            Err(answer) => answer,
+        },
         None => Answer::Usage,
     }
 }
 
-// The subroutine of a theory and a diagram.
-#[tactic(auto, using(crate::proofs::FileAnswers::answer_laws))]
-fn answer_make<L: Library>(alloc: Global, library: &mut L, first: &str, second: &str) -> Answer
-    ensures answer { MakeAnswer (L.told library.old first.now) (L.told library.old second.now) result }
-    ensures unread { IsUnread result → Rose (L.faults library.old) (L.faults library.new) }
-    ensures kept { (IsUnread result → ⊥) → L.faults library.new ≡ L.faults library.old }
-    ensures later { L.faults library.old ≤ L.faults library.new }
-    ensures sure { L.sure library.old first.now → L.sure library.old second.now → IsUnread result → ⊥ }
+// The text of the subroutine of a theory and a diagram, or why there is none.
+#[tactic(auto, using(crate::proofs::Chains::answering))]
+fn make<L: Library>(
+    alloc: Global,
+    library: &mut L,
+    first: &Name,
+    second: &Name,
+) -> Result<Vec<u8>, Answer>
+    ensures answer { MatchResult result (λ text. Makes (L.told library.old) (L.sure library.old) first.now second.now (Answer.Text text)) (IsAnswerOf (Makes (L.told library.old) (L.sure library.old) first.now second.now)) }
+    ensures faults { MatchResult result (λ _. L.faults library.new ≡ L.faults library.old) (λ answer. CountsFaults (IsUnread answer) (L.faults library.old) (L.faults library.new)) }
 {
-    let theory = match find_theory(alloc, library, first) {
-        Ok(theory) => theory,
-        Err(answer) => return answer,
-    };
+    let theory = find_theory(alloc, library, first)?;
     if !theory.axioms.is_empty() {
-        return Answer::NotBuilt(File::Theory);
+        let message = not_built(alloc, File::Theory)?;
+        return Err(Answer::Refused(Refusal::NotBuilt, message));
     }
     let diagram = match find_diagram(alloc, library, &theory, second) {
         Ok(diagram) => diagram,
-        Err(answer) => return answer,
+        Err(answer) => return Err(answer),
     };
-    answer_text(alloc, &theory, &diagram)
-}
-
-// The canonical text of a theory.
-#[tactic(auto, using(crate::proofs::FileAnswers::answer_laws))]
-fn answer_theory<L: Library>(alloc: Global, library: &mut L, name: &str) -> Answer
-    ensures answer { ShowAnswer (L.told library.old name.now) result }
-    ensures unread { IsUnread result → Rose (L.faults library.old) (L.faults library.new) }
-    ensures kept { (IsUnread result → ⊥) → L.faults library.new ≡ L.faults library.old }
-    ensures later { L.faults library.old ≤ L.faults library.new }
-    ensures sure { L.sure library.old name.now → IsUnread result → ⊥ }
-{
-    let theory = match find_theory(alloc, library, name) {
-        Ok(theory) => theory,
-        Err(answer) => return answer,
-    };
-    match write_theory(alloc, &theory) {
-        Ok(text) => Answer::Text(text),
-        Err(_) => Answer::NoMemory,
+    match unit_text(alloc, &theory, &diagram) {
+        Ok(text) => Ok(text),
+        Err(answer) => Err(answer),
     }
 }
 
-#[tactic(auto, using(crate::proofs::FileAnswers::theory_laws))]
-fn find_theory<L: Library>(alloc: Global, library: &mut L, name: &str) -> Result<Theory, Answer>
-    ensures found { MatchResult result (IsTheoryFound (L.told library.old name.now)) (TheoryRefused (L.told library.old name.now)) }
-    ensures unread { MatchResult result (λ _. L.faults library.new ≡ L.faults library.old) (λ answer. IsUnread answer → Rose (L.faults library.old) (L.faults library.new)) }
-    ensures kept { MatchResult result (λ _. L.faults library.new ≡ L.faults library.old) (λ answer. (IsUnread answer → ⊥) → L.faults library.new ≡ L.faults library.old) }
-    ensures later { L.faults library.old ≤ L.faults library.new }
-    ensures sure { L.sure library.old name.now → MatchResult result (λ _. Unit {0}) (λ answer. IsUnread answer → ⊥) }
+// The canonical text of a theory, or why there is none.
+#[tactic(auto, using(crate::proofs::Chains::answering))]
+fn show<L: Library>(alloc: Global, library: &mut L, name: &Name) -> Result<Vec<u8>, Answer>
+    ensures answer { MatchResult result (λ text. Shows (L.told library.old) (L.sure library.old) name.now (Answer.Text text)) (IsAnswerOf (Shows (L.told library.old) (L.sure library.old) name.now)) }
+    ensures faults { MatchResult result (λ _. L.faults library.new ≡ L.faults library.old) (λ answer. CountsFaults (IsUnread answer) (L.faults library.old) (L.faults library.new)) }
+{
+    let theory = find_theory(alloc, library, name)?;
+    let text = write_theory(alloc, &theory)?;
+    Ok(text)
+}
+
+// The theory of a file, or why there is none.
+#[tactic(auto, using(crate::proofs::Chains::answering))]
+fn find_theory<L: Library>(alloc: Global, library: &mut L, name: &Name) -> Result<Theory, Answer>
+    ensures found { MatchResult result (FoundTheory (L.told library.old name.now)) (NoTheory (L.told library.old name.now) (L.sure library.old name.now)) }
+    ensures faults { MatchResult result (λ _. L.faults library.new ≡ L.faults library.old) (λ answer. CountsFaults (IsUnread answer) (L.faults library.old) (L.faults library.new)) }
     ensures told { L.told library.new ≡ L.told library.old }
-    ensures stay_sure { (n : List ℕ) → L.sure library.old n → L.sure library.new n }
+    ensures sure { (n : List ℕ) → L.sure library.old n → L.sure library.new n }
 {
-    match load(alloc, library, name) {
-        Loaded::Bytes(bytes) => match read_theory(alloc, bytes.as_slice()) {
-            Ok(theory) => Ok(theory),
-            Err(fault) => Err(refuse_theory(alloc, &fault)),
-        },
-        Loaded::TooLong => Err(refuse_theory(alloc, &LONG_THEORY)),
-        Loaded::Unread => Err(Answer::Unread(File::Theory)),
-        Loaded::NoMemory => Err(Answer::NoMemory),
+    let bytes = load(alloc, library, File::Theory, FILE_LIMIT, name)?;
+    match read_theory(alloc, bytes.as_slice()) {
+        Ok(theory) => Ok(theory),
+        Err(fault) => Err(refuse_theory(alloc, &fault)),
     }
 }
 
-#[tactic(auto, using(crate::proofs::FileAnswers::diagram_laws))]
+// The diagram of a file over a theory, or why there is none.
+#[tactic(auto, using(crate::proofs::Chains::answering))]
 fn find_diagram<L: Library>(
     alloc: Global,
     library: &mut L,
     theory: &Theory,
-    name: &str,
+    name: &Name,
 ) -> Result<Diagram, Answer>
     requires { WellFormedTheory theory.now }
-    ensures found { MatchResult result (IsDiagramFound theory.now (L.told library.old name.now)) (DiagramRefused theory.now (L.told library.old name.now)) }
-    ensures unread { MatchResult result (λ _. L.faults library.new ≡ L.faults library.old) (λ answer. IsUnread answer → Rose (L.faults library.old) (L.faults library.new)) }
-    ensures kept { MatchResult result (λ _. L.faults library.new ≡ L.faults library.old) (λ answer. (IsUnread answer → ⊥) → L.faults library.new ≡ L.faults library.old) }
-    ensures later { L.faults library.old ≤ L.faults library.new }
-    ensures sure { L.sure library.old name.now → MatchResult result (λ _. Unit {0}) (λ answer. IsUnread answer → ⊥) }
+    ensures found { MatchResult result (FoundDiagram theory.now (L.told library.old name.now)) (NoDiagram theory.now (L.told library.old name.now) (L.sure library.old name.now)) }
+    ensures faults { MatchResult result (λ _. L.faults library.new ≡ L.faults library.old) (λ answer. CountsFaults (IsUnread answer) (L.faults library.old) (L.faults library.new)) }
 {
-    match load(alloc, library, name) {
-        Loaded::Bytes(bytes) => match read_diagram(alloc, theory, bytes.as_slice()) {
-            Ok(diagram) => Ok(diagram),
-            Err(fault) => Err(refuse_diagram(alloc, &fault)),
-        },
-        Loaded::TooLong => Err(refuse_diagram(alloc, &LONG_DIAGRAM)),
-        Loaded::Unread => Err(Answer::Unread(File::Diagram)),
-        Loaded::NoMemory => Err(Answer::NoMemory),
+    let bytes = load(alloc, library, File::Diagram, FILE_LIMIT, name)?;
+    match read_diagram(alloc, theory, bytes.as_slice()) {
+        Ok(diagram) => Ok(diagram),
+        Err(fault) => Err(refuse_diagram(alloc, &fault)),
     }
 }
 
@@ -144,7 +122,7 @@ fn refuse_theory(alloc: Global, fault: &TheoryFault) -> Answer
         return Answer::NoMemory;
     }
     match theory_message(alloc, fault) {
-        Ok(message) => Answer::Fault(File::Theory, message),
+        Ok(message) => Answer::Refused(Refusal::File, message),
         Err(_) => Answer::NoMemory,
     }
 }
@@ -157,47 +135,23 @@ fn refuse_diagram(alloc: Global, fault: &DiagramFault) -> Answer
         return Answer::NoMemory;
     }
     match diagram_message(alloc, fault) {
-        Ok(message) => Answer::Fault(File::Diagram, message),
+        Ok(message) => Answer::Refused(Refusal::File, message),
         Err(_) => Answer::NoMemory,
     }
 }
 
-#[tactic(auto, using(crate::proofs::FileAnswers::text_laws))]
-fn answer_text(alloc: Global, theory: &Theory, diagram: &Diagram) -> Answer
+// The text of the unit of a direct diagram, or why there is none.
+#[tactic(auto, using(crate::proofs::Chains::answering))]
+fn unit_text(alloc: Global, theory: &Theory, diagram: &Diagram) -> Result<Vec<u8>, Answer>
     requires theory { WellFormedTheory theory.now }
     requires diagram { WellFormed theory.now diagram.now }
-    ensures { IsUnitText theory.now diagram.now result }
+    ensures { MatchResult result (λ text. FromDiagram theory.now diagram.now (Answer.Text text)) (IsAnswerOf (FromDiagram theory.now diagram.now)) }
 {
-    let Ok(found) = direct_answer(alloc, theory, diagram) else {
-        return Answer::NoMemory;
+    let Some(answer) = direct_answer(alloc, theory, diagram)? else {
+        let message = not_built(alloc, File::Diagram)?;
+        return Err(Answer::Refused(Refusal::NotBuilt, message));
     };
-    let Some(answer) = found else {
-        return Answer::NotBuilt(File::Diagram);
-    };
-    let Ok(unit) = plan(alloc, theory, diagram, answer.as_slice()) else {
-        return Answer::NoMemory;
-    };
-    match write_unit(alloc, &unit) {
-        Ok(text) => Answer::Text(text),
-        Err(_) => Answer::NoMemory,
-    }
-}
-
-// The bytes of a file, at most as many as a file may have.
-fn load<L: Library>(alloc: Global, library: &mut L, name: &str) -> Loaded
-    ensures loaded { IsLoaded (L.told library.old name.now) result }
-    ensures unread { result ≡ Loaded.Unread → Rose (L.faults library.old) (L.faults library.new) }
-    ensures kept { result ≢ Loaded.Unread → L.faults library.new ≡ L.faults library.old }
-    ensures later { L.faults library.old ≤ L.faults library.new }
-    ensures sure { L.sure library.old name.now → result ≢ Loaded.Unread }
-    ensures told { L.told library.new ≡ L.told library.old }
-    ensures stay_sure { (n : List ℕ) → L.sure library.old n → L.sure library.new n }
-{
-    let mut bytes = Vec::new(alloc);
-    match library.fetch(name, 1_048_576, &mut bytes) {
-        Fetched::Done => Loaded::Bytes(bytes),
-        Fetched::TooLong => Loaded::TooLong,
-        Fetched::Failed => Loaded::Unread,
-        Fetched::NoMemory => Loaded::NoMemory,
-    }
+    let unit = plan(alloc, theory, diagram, answer.as_slice())?;
+    let text = write_unit(alloc, &unit)?;
+    Ok(text)
 }

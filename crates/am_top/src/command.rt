@@ -1,8 +1,8 @@
 ghost use Rattle.std.specs.Prelude.{◌≡◌, ◌≢◌, ◌⊎◌, ℕ, None, Ok, List, map, string_bytes};
 ghost use Rattle.am_term.specs.declared.term.Term.{Term};
 ghost use Rattle.am_outside.specs.Causes.{Rose};
-ghost use Rattle.am_outside.specs.Growth.{Grows, GrowsByPart};
-ghost use Rattle.am_world.specs.Interpretation.{IsWorld};
+ghost use Rattle.am_outside.specs.Growth.{Grows};
+ghost use Rattle.am_world.specs.Interpretation.{Interpretation, IsWorld};
 ghost use Rattle.am_theory.specs.declared.theory.Theory.{Theory};
 ghost use Rattle.am_theory.specs.Contents.{Contents};
 ghost use Rattle.am_canon.specs.CanonicalText.{canon};
@@ -12,8 +12,9 @@ ghost use Rattle.am_exec.specs.Right.{Right};
 ghost use Rattle.am_fortran.specs.Text.{unit_text};
 ghost use Rattle.am_fortran.specs.declared.unit.Unit.{Unit as Subroutine};
 ghost use Rattle.am_top.specs.declared.answer.Answer.{Answer};
-ghost use Rattle.am_top.specs.Commands.{reading, AllSure};
-ghost use Rattle.am_top.specs.Answers.{WhereMade, WhereShown, WordsAnswer, IsMade, IsTheoryFault, IsDiagramFault, HasAxiom, IsNotDirect, text_of, message_of, message_at_fault, status_of};
+ghost use Rattle.am_top.specs.Answers.{text_of, message_of, status_of, page, Failed};
+ghost use Rattle.am_top.specs.Commands.{reading, AllSure, HasAnswer};
+ghost use Rattle.am_top.specs.Clauses.{WhereMade, WhereShown, AreFiles, IsMade, SaysTheoryFault, SaysDiagramFault, HasAxioms, IsUnbuilt};
 
 use crate::answering::answer_words;
 use crate::printing::print;
@@ -33,39 +34,44 @@ pub fn run<L: Library, O: Sink, E: Sink, W: World>(
     err: &mut E,
     world: &W,
 ) -> Status
+    // Status, text and message are those of the one answer that the words and the files have.
+    ensures answered { result ≢ Status.Write → (answer : Answer) × HasAnswer (L.told library.old) (L.sure library.old) (reading (map string_bytes words.now)) answer
+        × (result ≡ status_of answer) × Grows (O.held out.old) (O.held out.new) (text_of answer) × Grows (E.held err.old) (E.held err.new) (message_of answer) }
+    // Where a put failed, a part of them was put.
+    ensures at_fault { result ≡ Status.Write → (answer : Answer) × HasAnswer (L.told library.old) (L.sure library.old) (reading (map string_bytes words.now)) answer
+        × Failed answer (page (O.held out.old) (O.faults out.old)) (page (O.held out.new) (O.faults out.new)) (page (E.held err.old) (E.faults err.old)) (page (E.held err.new) (E.faults err.new)) }
     // What `make` printed is the text of the unit that the terms of the diagram ask for.
     ensures printed { result ≡ Status.Ok → WhereMade (reading (map string_bytes words.now)) (L.told library.old) (λ a b.
         (t : Theory) × (d : Diagram) × (answer : List Term) × (u : Subroutine) × IsMade a b t d answer u × Grows (O.held out.old) (O.held out.new) (unit_text u)) }
-    // It is right for the diagram, in every interpretation of the theory's signature.
+    // It is right for the diagram in the interpretation that is handed in, and in every one of the theory's signature.
     ensures right { result ≡ Status.Ok → WhereMade (reading (map string_bytes words.now)) (L.told library.old) (λ a b.
         (t : Theory) (d : Diagram) (answer : List Term) (u : Subroutine) → IsMade a b t d answer u → IsWorld t.sig (W.meaning world.now) → Right (W.meaning world.now) t d u) }
+    ensures right_in_all { result ≡ Status.Ok → WhereMade (reading (map string_bytes words.now)) (L.told library.old) (λ a b.
+        (t : Theory) (d : Diagram) (answer : List Term) (u : Subroutine) → IsMade a b t d answer u → (w : Interpretation) → IsWorld t.sig w → Right w t d u) }
     // What `theory` printed is the canonical text of the theory that the file is.
     ensures shown { result ≡ Status.Ok → WhereShown (reading (map string_bytes words.now)) (L.told library.old) (λ a.
         (c : Contents) × (theory_of a ≡ Ok c) × Grows (O.held out.old) (O.held out.new) (canon c)) }
-    // Status, text and message are those of the one answer that the words and the files have.
-    ensures answered { result ≢ Status.Write → (answer : Answer) × WordsAnswer (reading (map string_bytes words.now)) (L.told library.old) answer
-        × (result ≡ status_of answer) × Grows (O.held out.old) (O.held out.new) (text_of answer) × Grows (E.held err.old) (E.held err.new) (message_of answer) }
-    ensures at_fault { result ≡ Status.Write → (answer : Answer) × WordsAnswer (reading (map string_bytes words.now)) (L.told library.old) answer
-        × GrowsByPart (O.held out.old) (O.held out.new) (text_of answer) × GrowsByPart (E.held err.old) (E.held err.new) (message_at_fault answer) }
     ensures usage { result ≡ Status.Usage → reading (map string_bytes words.now) ≡ None }
     ensures no_reading { reading (map string_bytes words.now) ≡ None → (result ≡ Status.Usage) ⊎ (result ≡ Status.Write) }
-    // A file of `make` has a fault, of which the message tells.
+    // A file of `make` is too long or has a fault, of which the message tells.
     ensures file_of_make { result ≡ Status.File → WhereMade (reading (map string_bytes words.now)) (L.told library.old) (λ a b.
-        (message : List ℕ) × (IsTheoryFault a message ⊎ IsDiagramFault a b message) × Grows (E.held err.old) (E.held err.new) message) }
-    // So has the file of `theory`.
+        (message : List ℕ) × (SaysTheoryFault a message ⊎ SaysDiagramFault a b message) × Grows (E.held err.old) (E.held err.new) message) }
+    // So is the file of `theory`.
     ensures file_of_theory { result ≡ Status.File → WhereShown (reading (map string_bytes words.now)) (L.told library.old) (λ a.
-        (message : List ℕ) × IsTheoryFault a message × Grows (E.held err.old) (E.held err.new) message) }
+        (message : List ℕ) × SaysTheoryFault a message × Grows (E.held err.old) (E.held err.new) message) }
     // The theory has an axiom, or the diagram isn't direct; only `make` is refused so.
-    ensures not_built { result ≡ Status.NotBuilt → WhereMade (reading (map string_bytes words.now)) (L.told library.old) (λ a b. HasAxiom a ⊎ IsNotDirect a b) }
+    ensures not_built { result ≡ Status.NotBuilt → WhereMade (reading (map string_bytes words.now)) (L.told library.old) (λ a b. HasAxioms a ⊎ IsUnbuilt a b) }
     ensures built { result ≡ Status.NotBuilt → WhereShown (reading (map string_bytes words.now)) (L.told library.old) (λ a. ⊥) }
     ensures read { result ≡ Status.Read → Rose (L.faults library.old) (L.faults library.new) }
     ensures not_read { result ≢ Status.Read → result ≢ Status.Write → L.faults library.new ≡ L.faults library.old }
+    // Where all files that the words name are sure, the library has no fault, whatever the status.
     ensures sure { AllSure (reading (map string_bytes words.now)) (L.sure library.old) → result ≢ Status.Read }
+    ensures calm { AllSure (reading (map string_bytes words.now)) (L.sure library.old) → L.faults library.new ≡ L.faults library.old }
     ensures write { result ≡ Status.Write → Rose (O.faults out.old) (O.faults out.new) ⊎ Rose (E.faults err.old) (E.faults err.new) }
     ensures not_write { result ≢ Status.Write → (O.faults out.new ≡ O.faults out.old) × (E.faults err.new ≡ E.faults err.old) }
     ensures nothing { result ≢ Status.Ok → result ≢ Status.Write → O.held out.new ≡ O.held out.old }
     // Without a cause nothing is refused.
-    ensures complete { WhereMade (reading (map string_bytes words.now)) (L.told library.old) (λ a b. (t : Theory) (d : Diagram) (answer : List Term) (u : Subroutine) → IsMade a b t d answer u
+    ensures complete { WhereMade (reading (map string_bytes words.now)) (L.told library.old) (λ a b. (t : Theory) (d : Diagram) (answer : List Term) → AreFiles a b t d answer
         → (Rose (L.faults library.old) (L.faults library.new) → ⊥) → (Rose (O.faults out.old) (O.faults out.new) → ⊥) → (Rose (E.faults err.old) (E.faults err.new) → ⊥)
         → (result ≡ Status.Ok) ⊎ (result ≡ Status.NoMemory)) }
     ensures complete_theory { WhereShown (reading (map string_bytes words.now)) (L.told library.old) (λ a. (c : Contents) → theory_of a ≡ Ok c

@@ -1,22 +1,24 @@
 //! The one call that the program makes: words and files in, a text out.
 //!
-//! `specs/Commands.antt` says which command words are, `Answers` which answer words and files have,
-//! `Messages` what is said of a file that has a fault, `Direct` which diagrams are solved so far. The
-//! crate rests on all the others.
+//! `specs/Commands.antt` says which command words are, and which answer each command has, as a chain of steps;
+//! `Answers` what a step, a chain and an answer are, `Messages` what is said where no text is printed, `Direct` which
+//! diagrams are solved so far, `Clauses` what single clauses of `run` say. The crate rests on all others but those that
+//! are proved by themselves so far (README).
 #![tactic(auto)]
 
 mod answer;
 mod answering;
 mod command;
 mod direct;
-mod loaded;
+mod loading;
 mod messages;
 mod printing;
-mod requests;
 mod status;
 #[cfg(test)]
 mod tests;
+mod words;
 
-pub use answer::{Answer, File};
+pub use answer::{Answer, File, Refusal};
 pub use command::run;
 pub use status::Status;
+pub use words::Command;

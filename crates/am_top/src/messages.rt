@@ -1,7 +1,8 @@
 ghost use Rattle.std.specs.Prelude.{◌≡◌, ◌++◌, codes, IfOk, OnOk};
 ghost use Rattle.std.specs.Fmt.{decimal};
-ghost use Rattle.am_top.specs.Messages.{text_words as words_of_text, theory_words as words_of_theory, diagram_words as words_of_diagram, at_byte as message_at_byte, longer as message_of_length, text_message as message_of_text, theory_message as message_of_theory, diagram_message as message_of_diagram};
+ghost use Rattle.am_top.specs.Messages.{text_words as words_of_text, theory_words as words_of_theory, diagram_words as words_of_diagram, word_of as word_of_file, at_byte as message_at_byte, longer as message_of_length, theory_message as message_of_theory, diagram_message as message_of_diagram, not_built as message_of_not_built};
 
+use crate::answer::File;
 use am_diagram::{DiagramFault, DiagramKind};
 use am_term::NoMemory;
 use am_text::TextKind;
@@ -13,10 +14,7 @@ use std::alloc::Global;
 pub fn theory_message(alloc: Global, fault: &TheoryFault) -> Result<Vec<u8>, NoMemory>
     ensures { IfOk result (λ m. m.items ≡ message_of_theory fault.now) }
 {
-    match fault.kind {
-        TheoryKind::Text(kind) => text_message(alloc, b"theory", fault.place, kind),
-        kind => at_byte(alloc, b"theory", fault.place, theory_words(kind)),
-    }
+    at_byte(alloc, File::Theory, fault.place, theory_words(fault.kind))
 }
 
 /// What is said of a diagram file that has this fault.
@@ -24,32 +22,44 @@ pub fn theory_message(alloc: Global, fault: &TheoryFault) -> Result<Vec<u8>, NoM
 pub fn diagram_message(alloc: Global, fault: &DiagramFault) -> Result<Vec<u8>, NoMemory>
     ensures { IfOk result (λ m. m.items ≡ message_of_diagram fault.now) }
 {
-    match fault.kind {
-        DiagramKind::Text(kind) => text_message(alloc, b"diagram", fault.place, kind),
-        kind => at_byte(alloc, b"diagram", fault.place, diagram_words(kind)),
-    }
+    at_byte(alloc, File::Diagram, fault.place, diagram_words(fault.kind))
 }
 
-fn text_message(alloc: Global, file: &[u8], place: u32, kind: TextKind) -> Result<Vec<u8>, NoMemory>
-    ensures { IfOk result (λ m. m.items ≡ message_of_text file.now place kind) }
-{
-    match kind {
-        TextKind::TooLong => longer(alloc, file),
-        kind => at_byte(alloc, file, place, text_words(kind)),
-    }
-}
-
-fn longer(alloc: Global, file: &[u8]) -> Result<Vec<u8>, NoMemory>
-    ensures { IfOk result (λ m. m.items ≡ message_of_length file.now) }
+/// What is said of a file that has more bytes than it may have.
+pub fn longer(alloc: Global, file: File, limit: usize) -> Result<Vec<u8>, NoMemory>
+    ensures { IfOk result (λ m. m.items ≡ message_of_length file limit) }
 {
     let mut message = started(alloc, file)?;
-    message.extend_from_slice(b": longer than 1048576 bytes")?;
-    message.extend_from_slice(b"\n")?;
+    message.extend_from_slice(b": longer than ")?;
+    message.extend_from_slice(limit.to_string(alloc)?.as_bytes())?;
+    message.extend_from_slice(b" bytes\n")?;
     Ok(message)
 }
 
-fn at_byte(alloc: Global, file: &[u8], place: u32, words: &[u8]) -> Result<Vec<u8>, NoMemory>
-    ensures { IfOk result (λ m. m.items ≡ message_at_byte file.now place words.now) }
+/// What is said of a file of a kind that isn't built yet.
+pub fn not_built(alloc: Global, file: File) -> Result<Vec<u8>, NoMemory>
+    ensures { IfOk result (λ m. m.items ≡ message_of_not_built file) }
+{
+    let text: &[u8] = match file {
+        File::Theory => b"amphion: theory: not built yet\n",
+        File::Diagram => b"amphion: diagram: not built yet\n",
+    };
+    let message = Vec::from_slice(alloc, text)?;
+    Ok(message)
+}
+
+// The word by which a message names a file.
+fn word_of(file: File) -> &'static [u8]
+    ensures { result.now ≡ word_of_file file }
+{
+    match file {
+        File::Theory => b"theory",
+        File::Diagram => b"diagram",
+    }
+}
+
+fn at_byte(alloc: Global, file: File, place: u32, words: &[u8]) -> Result<Vec<u8>, NoMemory>
+    ensures { IfOk result (λ m. m.items ≡ message_at_byte file place words.now) }
 {
     let mut message = started(alloc, file)?;
     push_place(alloc, &mut message, place)?;
@@ -58,12 +68,12 @@ fn at_byte(alloc: Global, file: &[u8], place: u32, words: &[u8]) -> Result<Vec<u
     Ok(message)
 }
 
-fn started(alloc: Global, file: &[u8]) -> Result<Vec<u8>, NoMemory>
-    ensures { IfOk result (λ m. m.items ≡ codes "amphion: " ++ file.now) }
+fn started(alloc: Global, file: File) -> Result<Vec<u8>, NoMemory>
+    ensures { IfOk result (λ m. m.items ≡ codes "amphion: " ++ word_of_file file) }
 {
     let mut message = Vec::new(alloc);
     message.extend_from_slice(b"amphion: ")?;
-    message.extend_from_slice(file)?;
+    message.extend_from_slice(word_of(file))?;
     Ok(message)
 }
 

@@ -2,9 +2,10 @@ ghost use Rattle.std.specs.Prelude.{◌≡◌, ◌≢◌, ◌⊎◌, ◌++◌, �
 ghost use Rattle.am_outside.specs.Causes.{Rose};
 ghost use Rattle.am_outside.specs.Growth.{Grows, GrowsByPart};
 ghost use Rattle.am_top.specs.Words.{inline};
-ghost use Rattle.am_top.specs.Answers.{text_of, message_of, message_at_fault, status_of};
+ghost use Rattle.am_top.specs.Answers.{text_of, message_of, status_of, status_at as status_of_refusal, page, Failed};
+ghost use Rattle.am_top.specs.Messages.{cannot_read, cannot_write};
 
-use crate::answer::{Answer, File};
+use crate::answer::{Answer, File, Refusal};
 use crate::status::Status;
 use am_outside::{Put, Sink};
 
@@ -15,11 +16,9 @@ pub fn print<O: Sink, E: Sink>(out: &mut O, err: &mut E, answer: &Answer) -> Sta
     ensures status { (result ≡ status_of answer.now) ⊎ (result ≡ Status.Write) }
     ensures text { result ≢ Status.Write → Grows (O.held out.old) (O.held out.new) (text_of answer.now) }
     ensures message { result ≢ Status.Write → Grows (E.held err.old) (E.held err.new) (message_of answer.now) }
-    ensures text_part { result ≡ Status.Write → GrowsByPart (O.held out.old) (O.held out.new) (text_of answer.now) }
-    ensures message_part { result ≡ Status.Write → GrowsByPart (E.held err.old) (E.held err.new) (message_at_fault answer.now) }
-    ensures write { result ≡ Status.Write → Rose (O.faults out.old) (O.faults out.new) ⊎ Rose (E.faults err.old) (E.faults err.new) }
     ensures out_kept { result ≢ Status.Write → O.faults out.new ≡ O.faults out.old }
     ensures err_kept { result ≢ Status.Write → E.faults err.new ≡ E.faults err.old }
+    ensures failed { result ≡ Status.Write → Failed answer.now (page (O.held out.old) (O.faults out.old)) (page (O.held out.new) (O.faults out.new)) (page (E.held err.old) (E.faults err.old)) (page (E.held err.new) (E.faults err.new)) }
 {
     match answer {
         Answer::Text(text) => print_text(out, err, text.as_slice()),
@@ -28,24 +27,25 @@ pub fn print<O: Sink, E: Sink>(out: &mut O, err: &mut E, answer: &Answer) -> Sta
             b"usage: amphion make THEORY DIAGRAM\n       amphion theory THEORY\n",
             Status::Usage,
         ),
-        Answer::Fault(_, message) => refuse(err, message.as_slice(), Status::File),
-        Answer::NotBuilt(file) => refuse(err, not_built(*file), Status::NotBuilt),
+        Answer::Refused(refusal, message) => refuse(err, message.as_slice(), status_at(*refusal)),
         Answer::Unread(file) => refuse(err, not_read(*file), Status::Read),
         Answer::NoMemory => refuse(err, b"amphion: no memory\n", Status::NoMemory),
     }
 }
 
-fn not_built(file: File) -> &'static [u8]
-    ensures { result.now ≡ message_of (Answer.NotBuilt file) }
+// The status of a refusal, which is never that of a failed put.
+fn status_at(refusal: Refusal) -> Status
+    ensures is { result ≡ status_of_refusal refusal }
+    ensures other { result ≢ Status.Write }
 {
-    match file {
-        File::Theory => b"amphion: theory: not built yet\n",
-        File::Diagram => b"amphion: diagram: not built yet\n",
+    match refusal {
+        Refusal::File => Status::File,
+        Refusal::NotBuilt => Status::NotBuilt,
     }
 }
 
 fn not_read(file: File) -> &'static [u8]
-    ensures { result.now ≡ message_of (Answer.Unread file) }
+    ensures { result.now ≡ cannot_read file }
 {
     match file {
         File::Theory => b"amphion: cannot read theory\n",
@@ -75,7 +75,8 @@ fn print_text<O: Sink, E: Sink>(out: &mut O, err: &mut E, text: &[u8]) -> Status
     ensures text { result ≢ Status.Write → Grows (O.held out.old) (O.held out.new) text.now }
     ensures message { result ≢ Status.Write → Grows (E.held err.old) (E.held err.new) [] }
     ensures text_part { result ≡ Status.Write → GrowsByPart (O.held out.old) (O.held out.new) text.now }
-    ensures message_part { result ≡ Status.Write → GrowsByPart (E.held err.old) (E.held err.new) (codes "amphion: cannot write" ++ 10 ∷ []) }
+    ensures message_part { result ≡ Status.Write → GrowsByPart (E.held err.old) (E.held err.new) cannot_write }
+    ensures message_whole { result ≡ Status.Write → (Rose (E.faults err.old) (E.faults err.new) → ⊥) → Grows (E.held err.old) (E.held err.new) cannot_write }
     ensures write { result ≡ Status.Write → Rose (O.faults out.old) (O.faults out.new) }
     ensures out_kept { result ≢ Status.Write → O.faults out.new ≡ O.faults out.old }
     ensures err_kept { result ≢ Status.Write → E.faults err.new ≡ E.faults err.old }
@@ -92,7 +93,8 @@ fn print_text<O: Sink, E: Sink>(out: &mut O, err: &mut E, text: &[u8]) -> Status
 // Says that a text can't be written, as far as that can be said.
 #[tactic(auto, using(crate::proofs::Growth::grows_by_all))]
 fn complain<E: Sink>(err: &mut E)
-    ensures { GrowsByPart (E.held err.old) (E.held err.new) (codes "amphion: cannot write" ++ 10 ∷ []) }
+    ensures part { GrowsByPart (E.held err.old) (E.held err.new) cannot_write }
+    ensures whole { (Rose (E.faults err.old) (E.faults err.new) → ⊥) → Grows (E.held err.old) (E.held err.new) cannot_write }
 {
     let _put = err.put(b"amphion: cannot write\n");
 }

@@ -4,7 +4,7 @@
 //! What a text that it prints means is said by the contract of `am_top::run`.
 #![tactic(auto)]
 
-use am_outside::{Folder, Sink, StdErr, StdOut};
+use am_outside::{Folder, Put, Sink, StdErr, StdOut};
 use am_top::{Status, run};
 use am_world::TrivialWorld;
 use std::alloc::{AllocGlobal, Global};
@@ -19,8 +19,11 @@ fn main(rt: HostRuntime) -> ExitCode {
         Ok(words) => words,
         Err(error) => match error.kind() {
             io::ErrorKind::OutOfMemory => {
-                let _is_done = err.put(b"amphion: no memory\n");
-                return ExitCode::from(Status::NoMemory.code());
+                let status = match err.put(b"amphion: no memory\n") {
+                    Put::Done => Status::NoMemory,
+                    Put::Failed => Status::Write,
+                };
+                return ExitCode::from(status.code());
             }
             // A word that is no UTF-8 has no reading, and no more have no words.
             _ => Vec::new(alloc),
