@@ -1,0 +1,13 @@
+pub mod Walks
+pub mod Sorts
+pub mod Forwards
+pub mod Looks
+pub mod Fills
+pub mod Agrees
+pub mod Builds
+pub mod Sound
+pub mod Lines
+pub mod Digits
+pub mod Firsts
+pub mod Stricter
+pub mod Ranges
