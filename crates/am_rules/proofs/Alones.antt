@@ -1,5 +1,5 @@
 -- Factoring and reflexion are natural, and what they give by unification is right.
-use Rattle.std.proofs.Common.{◌≡◌, ◌∙◌, ◌++◌, ◌<◌, ℕ, true, refl, sym, ap, subst, List, [], ◌∷◌, map, length, Option, Some, None, option_and_then}
+use Rattle.std.proofs.Common.{◌≡◌, ◌∙◌, ◌++◌, ℕ, true, refl, sym, ap, subst, List, [], ◌∷◌, map, length, Option, Some, None}
 use Rattle.std.specs.List.{AllByRecursion}
 use Rattle.am_term.specs.declared.id.SortId.{SortId}
 use Rattle.am_term.specs.declared.signature.Signature.{Signature}
@@ -14,7 +14,7 @@ use Rattle.am_clause.specs.Variables.{Variable, occurrences, occurrences_all, in
 use Rattle.am_clause.specs.Renaming.{Numbers, renamed, renamed_all, renamed_literal, renamed_clause}
 use Rattle.am_clause.specs.Numbered.{IsNumbered, sorts_in}
 use Rattle.am_clause.proofs.Renames.{Within, within-left}
-use Rattle.am_rules.specs.Row.{row, variables_of, in_lists, renamed_lists}
+use Rattle.am_rules.specs.Row.{in_lists, renamed_lists}
 use Rattle.am_rules.specs.Most.{IsUndone}
 use Rattle.am_rules.specs.Made.{IsAnswer, IsNatural}
 use Rattle.am_rules.specs.Parts.{literal_under, answer_under, all_but}
@@ -28,9 +28,7 @@ use Rattle.am_rules.proofs.InstanceLaws.{Below, instance-renamed, sorts-renamed,
 use Rattle.am_rules.proofs.Merging.{Undone, all-merged, merged-renamed}
 use Rattle.am_rules.proofs.AskedLaws.{Told, told-as, Holding, asked-told, asked-both}
 use Rattle.am_rules.proofs.Solutions.{atom_good}
-use Rattle.am_rules.proofs.OneParent.{G, alone-answer, alone-few}
-use Rattle.am_unify.specs.Mgu.{mgu}
-use Rattle.am_rules.specs.Solving.{images}
+use Rattle.am_rules.proofs.OneParent.{G, alone-answer}
 use Rattle.am_rules.proofs.Resolvents.{atoms-after, atom-below, literals-part, answer-part, literals-inside, answer-inside}
 use Rattle.am_term.specs.Parts.{parts_of}
 use Rattle.am_clause.specs.SortedClause.{is_sorted_clause}
@@ -100,15 +98,6 @@ module _ (sig : Signature) (ins : List SortId) (p : Clause) (numbered : IsNumber
   pub factor-natural : (i j : ℕ) → IsNatural (OfOne (BindsOne sig ins p (FactorMeets p i j))) (of_one (kept p 0))
   factor-natural i j = kept-natural sig ins p 0 numbered (FactorMeets p i j) (factor-after p i j numbered)
 
-  factor-told : (i j : ℕ) (f : Term → Term) → Told f f (FactorMeets p i j f) (asked (atom_at i p) (atom_at j p) None None)
-  factor-told i j f = told-as f f (AtomsMeet f f (atom_at i p) (atom_at j p) × Unit {0}) (FactorMeets p i j f) (λ h. h.0) (λ h. (h, tt)) (asked (atom_at i p) (atom_at j p) None None) (asked-told f f (atom_at i p) (atom_at j p) None None)
-
-  pub factoring-few : (sorted : is_sorted_clause sig ins p ≡ true) (i j : ℕ) → length (variables p) < 1000000000 → (bs : List (ℕ × Term)) → option_and_then (mgu sig ins) (asked (atom_at i p) (atom_at j p) None None) ≡ Some bs
-      → length (variables_of (row (kept p 0 (images bs 0 (variables p))) (images bs 0 (variables p) ∷ []))) < 4000000000
-  factoring-few sorted i j = alone-few sig ins p numbered sorted (FactorMeets p i j) (kept p 0) (factor-natural i j) (asked (atom_at i p) (atom_at j p) None None) (factor-told i j)
-      (asked-both (λ t. G sig ins p numbered sorted (FactorMeets p i j) (kept p 0) (factor-natural i j) t) (λ t. G sig ins p numbered sorted (FactorMeets p i j) (kept p 0) (factor-natural i j) t)
-      (atom_at i p) (atom_at j p) None None (atom_good sig ins p numbered sorted i) (atom_good sig ins p numbered sorted j) tt tt)
-
   pub factoring-answer : (sorted : is_sorted_clause sig ins p ≡ true) (i j : ℕ) → IsAnswer sig ins (OfOne (BindsOne sig ins p (FactorMeets p i j))) (of_one (kept p 0)) (factoring sig ins p i j)
   factoring-answer sorted i j = alone-answer sig ins p numbered sorted (FactorMeets p i j) (kept p 0) (factor-natural i j) (asked (atom_at i p) (atom_at j p) None None)
       (λ f. told-as f f (AtomsMeet f f (atom_at i p) (atom_at j p) × Unit {0}) (FactorMeets p i j f) (λ h. h.0) (λ h. (h, tt)) (asked (atom_at i p) (atom_at j p) None None) (asked-told f f (atom_at i p) (atom_at j p) None None))
@@ -137,11 +126,6 @@ module _ (sig : Signature) (ins : List SortId) (p : Clause) (numbered : IsNumber
   pub reflex-natural : IsNatural (OfOne (BindsOne sig ins p (ReflexMeets p i))) (of_one (kept p i))
   reflex-natural = kept-natural sig ins p i numbered (ReflexMeets p i)
       (λ to xs long m. sides-after (instance xs) (instance (renamed_all to xs)) (renamed to) (Below (length xs)) (instance-renamed to xs) (atom_at i p) (atom-below p numbered xs long i) m)
-
-  pub reflexion-few : (sorted : is_sorted_clause sig ins p ≡ true) → length (variables p) < 1000000000 → (bs : List (ℕ × Term)) → option_and_then (mgu sig ins) (sides (atom_at i p)) ≡ Some bs
-      → length (variables_of (row (kept p i (images bs 0 (variables p))) (images bs 0 (variables p) ∷ []))) < 4000000000
-  reflexion-few sorted = alone-few sig ins p numbered sorted (ReflexMeets p i) (kept p i) reflex-natural (sides (atom_at i p)) (λ f. sides-told f (atom_at i p))
-      (sides-hold (λ t. G sig ins p numbered sorted (ReflexMeets p i) (kept p i) reflex-natural t) (atom_at i p) (atom_good sig ins p numbered sorted i))
 
   pub reflexion-answer : (sorted : is_sorted_clause sig ins p ≡ true) → IsAnswer sig ins (OfOne (BindsOne sig ins p (ReflexMeets p i))) (of_one (kept p i)) (reflexion sig ins p i)
   reflexion-answer sorted = alone-answer sig ins p numbered sorted (ReflexMeets p i) (kept p i) reflex-natural (sides (atom_at i p)) (λ f. sides-told f (atom_at i p))

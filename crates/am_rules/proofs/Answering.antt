@@ -24,13 +24,13 @@ are-one Such [] h = absurd h
 are-one Such (xs ∷ []) h = record { first = xs; is = refl; such = h }
 are-one Such (xs ∷ ys ∷ ws) h = absurd h
 
-record AreTwo (Such : List Term → List Term → Type 0) (ws : List (List Term)) : Type 0 where
+pub record AreTwo (Such : List Term → List Term → Type 0) (ws : List (List Term)) : Type 0 where
   pub first : List Term
   pub second : List Term
   pub is : ws ≡ first ∷ second ∷ []
   pub such : Such first second
 
-are-two : (Such : List Term → List Term → Type 0) (ws : List (List Term)) → OfTwo Such ws → AreTwo Such ws
+pub are-two : (Such : List Term → List Term → Type 0) (ws : List (List Term)) → OfTwo Such ws → AreTwo Such ws
 are-two Such [] h = absurd h
 are-two Such (xs ∷ []) h = absurd h
 are-two Such (xs ∷ ys ∷ []) h = record { first = xs; second = ys; is = refl; such = h }

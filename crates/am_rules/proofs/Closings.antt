@@ -1,5 +1,5 @@
 -- What closing gives is right.
-use Rattle.std.proofs.Common.{◌≡◌, ◌∙◌, ◌==◌, ◌&&◌, ◌++◌, ◌<◌, inr, ℕ, Bool, true, refl, sym, ap, subst, arith, List, [], ◌∷◌, map, length, Option, Some, None, option_map, is_some, slice_get, get_or, if◌then◌else◌}
+use Rattle.std.proofs.Common.{◌≡◌, ◌∙◌, ◌==◌, ◌&&◌, ◌++◌, inr, ℕ, Bool, true, refl, sym, ap, subst, arith, List, [], ◌∷◌, map, length, Option, Some, None, option_map, is_some, slice_get, get_or, if◌then◌else◌}
 use Rattle.std.specs.List.{position}
 use Rattle.std.specs.Option.{option_or}
 use Rattle.std.proofs.lemmas.Bool.Decides.{nat_tests}
@@ -34,7 +34,7 @@ use Rattle.am_clause.proofs.Renames.{Within}
 use Rattle.am_clause.proofs.Places.{same_variable-refl}
 use Rattle.am_rules.specs.Parts.{answer_under}
 use Rattle.am_rules.specs.Closing.{input_for, constant_for, is_constant_for, constant_term, closing_term, IsClosing, AnswersClosing}
-use Rattle.am_rules.specs.Chosen.{one_more, all_chosen, closed}
+use Rattle.am_rules.specs.Chosen.{one_more, all_chosen, closed_by}
 use Rattle.am_rules.proofs.Standing.{never, Each}
 use Rattle.am_rules.proofs.InstanceLaws.{bindings-length}
 use Rattle.am_rules.proofs.RowLaws.{in-variables}
@@ -149,7 +149,7 @@ module _ (sig : Signature) (ins : List SortId) (p : Clause) (numbered : IsNumber
   bare : p.literals ≡ []
   bare = empty-literals p.literals (and_left (length p.literals == 0) (is_some p.answer) suits)
 
-  is-closing : (xs : List Term) → AreChosen sig ins (variables p) xs → IsClosing sig ins p (closed p xs)
+  is-closing : (xs : List Term) → AreChosen sig ins (variables p) xs → IsClosing sig ins p (closed_by p xs)
   is-closing xs h = record {
     first = xs;
     bound_by = refl;
@@ -160,7 +160,7 @@ module _ (sig : Signature) (ins : List SortId) (p : Clause) (numbered : IsNumber
       is = ap (clause []) (sym (answer-is xs p.answer)) ∙ ap (λ (ls : List Literal). clause (merged (map (instance_literal xs) ls)) (instance_answer xs p.answer)) (sym bare);
     };
     chosen = h.chosen;
-    numbered = none-numbered (variables_in (closed p xs)) all-none;
+    numbered = none-numbered (variables_in (closed_by p xs)) all-none;
   }
     where
       inside : Each (λ v. Within v (occurrences_all xs)) (in_answer (answer_under xs p.answer))
@@ -169,10 +169,10 @@ module _ (sig : Signature) (ins : List SortId) (p : Clause) (numbered : IsNumber
       answer-none : in_answer (answer_under xs p.answer) ≡ []
       answer-none = no-members (in_answer (answer_under xs p.answer)) (λ v m. never (subst (λ vs. among same_variable v vs ≡ true) h.none (inside v m)))
 
-      all-none : variables_in (closed p xs) ≡ []
+      all-none : variables_in (closed_by p xs) ≡ []
       all-none = ap (λ vs. vs ++ (occurrences_all xs ++ [])) answer-none ∙ ap (λ vs. vs ++ []) h.none
 
-  pub closing-answer : (o : Option (List Term)) → all_chosen sig ins (variables p) ≡ o → AnswersClosing sig ins p (option_map (closed p) o)
+  pub closing-answer : (o : Option (List Term)) → all_chosen sig ins (variables p) ≡ o → AnswersClosing sig ins p (option_map (closed_by p) o)
   closing-answer (Some xs) e = is-closing xs (are-chosen sig ins (variables p) xs e)
   closing-answer None e = let h = one-open sig ins (variables p) e in inr (record { variable = h.variable; occurs = in-variables h.variable p h.within; unbound = h.unbound })
 
@@ -209,10 +209,4 @@ chosen-step sig ins made v rest t e = ap (λ o. option_map (λ ts. made ++ ts) (
     by None = refl
     by (Some ts) = ap Some (sym (append_assoc made (t ∷ []) ts))
 
-pub position-low : {A : Type 0} (test : A → Bool) (xs : List A) (i : ℕ) → position test xs ≡ Some i → i < length xs
-position-low test [] i e = absurd cc
-position-low test (x ∷ xs) i e = (position-Some test (x ∷ xs) i x e).0
-
 pub ruleset choosing = (common_steps, chosen-none, chosen-step)
-
-pub ruleset finding = (common_steps, position-low)

@@ -10,7 +10,6 @@ pub mod Resolvents
 pub mod AskedLaws
 pub mod Posing
 pub mod Joining
-pub mod Bounding
 pub mod Solutions
 pub mod Resolutions
 pub mod Walks
@@ -27,3 +26,5 @@ pub mod Answering
 pub mod Tied
 pub mod TiedParts
 pub mod Closings
+pub mod Rewritings
+pub mod Concluded

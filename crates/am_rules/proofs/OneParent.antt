@@ -1,12 +1,12 @@
 -- What a rule of one parent gives by unification is right: the case of two parents in which the second has no variable.
-use Rattle.std.proofs.Common.{◌≡◌, ◌∙◌, ◌+◌, ◌<◌, ◌≤◌, inl, inr, ℕ, arith, true, refl, sym, ap, subst, List, [], ◌∷◌, length, Option, Some, None, option_map, option_and_then}
+use Rattle.std.proofs.Common.{◌≡◌, ◌∙◌, inl, inr, ℕ, true, refl, sym, ap, List, [], ◌∷◌, Option, Some, None, option_map}
 use Rattle.std.specs.List.{AllByRecursion}
 use Rattle.am_term.specs.declared.id.SortId.{SortId}
 use Rattle.am_term.specs.declared.signature.Signature.{Signature}
 use Rattle.am_term.specs.declared.term.Term.{Term}
 use Rattle.am_term.specs.Instance.{instance}
 use Rattle.am_clause.specs.declared.clause.Clause.{Clause}
-use Rattle.am_clause.specs.Variables.{Variable, occurrences, occurrences_all, in_clause, variables}
+use Rattle.am_clause.specs.Variables.{Variable, occurrences, occurrences_all, variables}
 use Rattle.am_clause.specs.Numbered.{IsNumbered}
 use Rattle.am_clause.proofs.Renames.{Within, within-left}
 use Rattle.am_unify.specs.Mgu.{mgu}
@@ -16,20 +16,16 @@ use Rattle.am_unify.proofs.Solved.{mgu-solved}
 use Rattle.am_rules.specs.Binding.{BindsOne, OfOne, of_one}
 use Rattle.am_rules.specs.Made.{IsMade, IsAnswer, IsNatural}
 use Rattle.am_rules.specs.Most.{AreInstances}
-use Rattle.am_rules.specs.Row.{row, in_lists, variables_of}
+use Rattle.am_rules.specs.Row.{in_lists}
 use Rattle.am_rules.specs.Asked.{Pairs}
 use Rattle.am_rules.specs.Solving.{images}
 use Rattle.am_rules.specs.Alone.{made_alone, solved_alone}
 use Rattle.am_rules.proofs.Standing.{never, within-cases, Each}
 use Rattle.am_rules.proofs.AskedLaws.{Told, Tells, Holding}
-use Rattle.am_rules.proofs.Posing.{HasSort, Valid}
-use Rattle.am_rules.proofs.Joining.{At, at-low, all_fine, IsCounted, sorts, Left, left-posed, joint, joint-left, joint-fits, instance-apply, read_image, none-more, lefts-fit, images-keep, lefts-factor}
+use Rattle.am_rules.proofs.Posing.{Valid}
+use Rattle.am_rules.proofs.Joining.{At, IsCounted, sorts, Left, left-posed, joint, joint-left, joint-fits, instance-apply, read_image, none-more, lefts-fit, images-keep, lefts-factor}
 use Rattle.am_rules.proofs.Numberings.{made-numbered}
-use Rattle.am_rules.proofs.Bounding.{each-span, all_low, sorted-few}
-use Rattle.am_term.specs.Span.{span}
-use Rattle.am_unify.specs.Occurrence.{span_of}
 use Rattle.am_rules.proofs.Solutions.{valid}
-use Rattle.am_clause.specs.NumberedMade.{variables_in}
 use Rattle.am_clause.specs.SortedClause.{is_sorted_clause}
 
 no-variable : (P : Variable → Type 0) → Each P []
@@ -72,14 +68,6 @@ module _ (sig : Signature) (ins : List SortId) (p : Clause) (numbered : IsNumber
   unifier : (xs : List Term) (b : BindsOne sig ins p Meets xs) (ps : List (Term × Term)) → Paired ps → AllByRecursion (λ (e : Term × Term). instance xs e.0 ≡ instance xs e.1) ps → IsUnifier sig ins ss (joint sig ins vs [] numbered none-counted xs [] b.whole refl) ps
   unifier xs b ps h u = record { fitting = joint-fits sig ins vs [] numbered none-counted xs [] b.whole refl; unifies = unifies xs b ps h u }
 
-  pairs-low : (ps : List (Term × Term)) → Paired ps → span_of ps ≤ length vs + 0
-  pairs-low [] h = omega arith
-  pairs-low (e ∷ ps) h =
-      let a : span e.0 ≤ length vs = each-span (length vs) e.0 (λ v m. at-low vs v (h.0.0.1 v m)) in
-      let b : span e.1 ≤ length vs = each-span (length vs) e.1 (λ v m. at-low vs v (h.0.1.1 v m)) in
-      let c : span_of ps ≤ length vs + 0 = pairs-low ps h.1 in
-      omega arith
-
   no-pairs : ((f : Term → Term) → Meets f → ⊥) → (ws : List (List Term)) → Such ws → ⊥
   no-pairs h [] k = k
   no-pairs h (xs ∷ []) k = h (instance xs) k.meets
@@ -115,25 +103,6 @@ module _ (sig : Signature) (ins : List SortId) (p : Clause) (numbered : IsNumber
         meets = (told (instance xs)).back (unite ps pairing solved.most_general.unifier.unifies);
       }
 
-      low : Each (λ v. (v.0 < length vs + 0) × HasSort ss v) (variables_in (row (make xs) (xs ∷ [])))
-      low v m =
-          let inside : Within v (in_lists (xs ∷ [])) = elim (within-cases v (in_clause (make xs)) (in_lists (xs ∷ [])) m) [
-            | inl a ↦ natural.inner (xs ∷ []) such v a
-            | inr b ↦ b
-          ] in (
-            all_low sig ins vs [] numbered none-counted ps (pairs-low ps pairing) bs solved v (more v inside),
-            (all_fine sig ins vs [] numbered none-counted p_valid q_valid ps bs solved v (more v inside)).0,
-          )
-        where
-          more : (v : Variable) → Within v (in_lists (xs ∷ [])) → Within v (in_lists (xs ∷ [] ∷ []))
-          more v m = elim (within-cases v (occurrences_all xs) [] m) [
-            | inl a ↦ within-left v (occurrences_all xs) (in_lists ([] ∷ [])) a
-            | inr b ↦ never b
-          ]
-
-      few : length (variables_of (row (make xs) (xs ∷ []))) ≤ length vs + 0
-      few = sorted-few ss (length vs + 0) (variables_in (row (make xs) (xs ∷ []))) low
-
       factors : (ws : List (List Term)) → Such ws → AreInstances sig ins ws (xs ∷ [])
       factors [] k = absurd k
       factors (us ∷ []) k =
@@ -157,14 +126,6 @@ module _ (sig : Signature) (ins : List SortId) (p : Clause) (numbered : IsNumber
     by_solution : (o : Option (List (ℕ × Term))) → IsSolved sig ins ss ps o → IsAnswer sig ins Such (of_one make) (option_map (made_alone p make) o)
     by_solution None h = no-unifier h
     by_solution (Some bs) h = made bs h
-
-    few_solution : (bs : List (ℕ × Term)) → mgu sig ins ps ≡ Some bs → length (variables_of (row (make (images bs 0 vs)) (images bs 0 vs ∷ []))) ≤ length vs + 0
-    few_solution bs e = few bs (subst (IsSolved sig ins ss ps) e (mgu-solved sig ins ss ps (posed ps pairing)))
-
-  pub alone-few : (o : Pairs) → ((f : Term → Term) → Told f f (Meets f) o) → Holding G G o → length vs < 1000000000
-      → (bs : List (ℕ × Term)) → option_and_then (mgu sig ins) o ≡ Some bs → length (variables_of (row (make (images bs 0 vs)) (images bs 0 vs ∷ []))) < 4000000000
-  alone-few None told hold l bs e = absurd cc
-  alone-few (Some ps) told hold l bs e = let f : length (variables_of (row (make (images bs 0 vs)) (images bs 0 vs ∷ []))) ≤ length vs + 0 = few_solution ps told hold bs e in omega arith
 
   pub alone-answer : (o : Pairs) → ((f : Term → Term) → Told f f (Meets f) o) → Holding G G o → IsAnswer sig ins Such (of_one make) (solved_alone sig ins p make o)
   alone-answer None told hold = no-pairs told

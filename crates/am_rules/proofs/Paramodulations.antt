@@ -1,5 +1,5 @@
 -- What paramodulation by unification gives is right.
-use Rattle.std.proofs.Common.{◌≡◌, ◌+◌, ◌≤◌, inl, inr, ℕ, Bool, true, false, refl, List, [], ◌∷◌, length, Option, Some, None, if◌then◌else◌}
+use Rattle.std.proofs.Common.{◌≡◌, inl, inr, ℕ, Bool, true, false, refl, List, Option, Some, None, if◌then◌else◌}
 use Rattle.std.specs.List.{AllByRecursion}
 use Rattle.am_term.specs.declared.id.SortId.{SortId}
 use Rattle.am_term.specs.declared.id.SymId.{SymId}
@@ -13,17 +13,15 @@ use Rattle.am_clause.specs.declared.row.Side.{Side}
 use Rattle.am_clause.specs.Variables.{occurrences, variables}
 use Rattle.am_clause.specs.Numbered.{IsNumbered}
 use Rattle.am_rules.specs.Made.{IsAnswer}
-use Rattle.am_rules.specs.Row.{row, variables_of}
 use Rattle.am_rules.specs.Binding.{Binds, OfTwo, of_two}
 use Rattle.am_rules.specs.Resolution.{atom_at, AnswersMeet}
 use Rattle.am_rules.specs.Paramodulation.{TermsMeet, side_in, part_in, ParaMeets, paramodulant, term_pairs, para_pairs, paramodulation, sorted_only, IsSortedAnswer}
 use Rattle.am_rules.specs.Asked.{Pairs, answer_pairs}
-use Rattle.am_rules.specs.Solving.{images, solved_apart}
 use Rattle.am_rules.proofs.AskedLaws.{Told, told-as, Holding, answers-told, both-told, answers-both, both-both}
 use Rattle.am_rules.proofs.Standing.{Each, each-App}
 use Rattle.am_rules.proofs.Posing.{HasOne, arguments-sorted}
 use Rattle.am_rules.proofs.Joining.{At}
-use Rattle.am_rules.proofs.Solutions.{Good, S, T, all-terms, all-and, atom_good, answer_good, by_pairs, few_pairs}
+use Rattle.am_rules.proofs.Solutions.{Good, S, T, all-terms, all-and, atom_good, answer_good, by_pairs}
 use Rattle.am_rules.proofs.Paramodulants.{then-at, part-holds, side-holds, para-natural}
 use Rattle.am_clause.specs.SortedClause.{is_sorted_clause}
 use Rattle.am_clause.specs.Rules.{side_of}
@@ -41,17 +39,17 @@ terms-both S T (Some t) None h k = tt
 terms-both S T (Some t) (Some u) h k = ((h t refl, k u refl), tt)
 
 module _ (sig : Signature) (ins : List SortId) (c : Clause) (numbered : IsNumbered c) (sorted : is_sorted_clause sig ins c ≡ true) where
-  abbrev G : Term → Type 0
+  abbrev pub G : Term → Type 0
   G t = Good sig ins c numbered sorted t
 
   good-down : (f : SymId) (ts : List Term) → G (App f ts) → AllByRecursion G ts
   good-down f ts h = all-and (HasOne sig ins) (λ t. Each (At (variables c)) (occurrences t)) ts (arguments-sorted sig ins f ts h.0) (all-terms (At (variables c)) ts (each-App (At (variables c)) f ts h.1))
 
-  side_good : (j : ℕ) (side : Side) (t : Term) → side_in c j side ≡ Some t → G t
+  pub side_good : (j : ℕ) (side : Side) (t : Term) → side_in c j side ≡ Some t → G t
   side_good j side t e = let r : (a : Atom) × (atom_at j c ≡ Some a) × (side_of side a ≡ Some t) = then-at (atom_at j c) (side_of side) t e in
       side-holds G good-down side r.0 t r.2 (atom_good sig ins c numbered sorted j r.0 r.1)
 
-  part_good : (i : ℕ) (path : List ℕ) (t : Term) → part_in c i path ≡ Some t → G t
+  pub part_good : (i : ℕ) (path : List ℕ) (t : Term) → part_in c i path ≡ Some t → G t
   part_good i path t e = let r : (a : Atom) × (atom_at i c ≡ Some a) × (place_in path a ≡ Some t) = then-at (atom_at i c) (place_in path) t e in
       part-holds G good-down path r.0 t r.2 (atom_good sig ins c numbered sorted i r.0 r.1)
 
@@ -79,11 +77,6 @@ module _ (sig : Signature) (ins : List SortId) (p : Clause) (j : ℕ) (side : Si
 
   pub paramodulation-answer : IsAnswer sig ins (OfTwo (Binds sig ins p q (ParaMeets p j side q i path))) (of_two (paramodulant p j side q i path)) (paramodulation sig ins p j side q i path)
   paramodulation-answer = by_pairs sig ins p q first second left_sorted right_sorted (ParaMeets p j side q i path) (paramodulant p j side q i path) (para-natural sig ins p j side q i path first second)
-      pairs told holding
-
-  pub paramodulation-few : (bs : List (ℕ × Term)) → solved_apart sig ins (length (variables p)) pairs ≡ Some bs
-      → length (variables_of (row (paramodulant p j side q i path (images bs 0 (variables p)) (images bs (length (variables p)) (variables q))) (images bs 0 (variables p) ∷ images bs (length (variables p)) (variables q) ∷ []))) ≤ length (variables p) + length (variables q)
-  paramodulation-few = few_pairs sig ins p q first second left_sorted right_sorted (ParaMeets p j side q i path) (paramodulant p j side q i path) (para-natural sig ins p j side q i path first second)
       pairs told holding
 
 -- what is made and well sorted

@@ -1,19 +1,17 @@
 -- What resolution by unification gives is right.
-use Rattle.std.proofs.Common.{◌≡◌, ◌+◌, ◌≤◌, ℕ, true, List, [], ◌∷◌, length, Some}
+use Rattle.std.proofs.Common.{◌≡◌, ℕ, true, List}
 use Rattle.am_term.specs.declared.id.SortId.{SortId}
 use Rattle.am_term.specs.declared.signature.Signature.{Signature}
 use Rattle.am_term.specs.declared.term.Term.{Term}
 use Rattle.am_clause.specs.declared.clause.Clause.{Clause}
-use Rattle.am_clause.specs.Variables.{variables}
 use Rattle.am_clause.specs.Numbered.{IsNumbered}
 use Rattle.am_rules.specs.Made.{IsAnswer}
-use Rattle.am_rules.specs.Row.{row, variables_of}
 use Rattle.am_rules.specs.Binding.{Binds, OfTwo, of_two}
 use Rattle.am_rules.specs.Resolution.{atom_at, AtomsMeet, AnswersMeet, ResolveMeets, resolvent}
 use Rattle.am_rules.specs.Asked.{asked}
-use Rattle.am_rules.specs.Solving.{images, solved_apart, resolution}
+use Rattle.am_rules.specs.Solving.{resolution}
 use Rattle.am_rules.proofs.AskedLaws.{Told, told-as, Holding, asked-told, asked-both}
-use Rattle.am_rules.proofs.Solutions.{S, T, atom_good, answer_good, by_pairs, few_pairs}
+use Rattle.am_rules.proofs.Solutions.{S, T, atom_good, answer_good, by_pairs}
 use Rattle.am_rules.proofs.Resolvents.{resolution-natural}
 use Rattle.am_clause.specs.SortedClause.{is_sorted_clause}
 
@@ -32,10 +30,4 @@ module _ (sig : Signature) (ins : List SortId) (p : Clause) (i : ℕ) (q : Claus
 
   pub resolution-answer : IsAnswer sig ins (OfTwo (Binds sig ins p q (ResolveMeets p i q j))) (of_two (resolvent p i q j)) (resolution sig ins p i q j)
   resolution-answer = by_pairs sig ins p q first second left_sorted right_sorted (ResolveMeets p i q j) (resolvent p i q j) (resolution-natural sig ins p i q j first second)
-      (asked (atom_at i p) (atom_at j q) p.answer q.answer) told holding
-
-  -- the row has few variables
-  pub resolution-few : (bs : List (ℕ × Term)) → solved_apart sig ins (length (variables p)) (asked (atom_at i p) (atom_at j q) p.answer q.answer) ≡ Some bs
-      → length (variables_of (row (resolvent p i q j (images bs 0 (variables p)) (images bs (length (variables p)) (variables q))) (images bs 0 (variables p) ∷ images bs (length (variables p)) (variables q) ∷ []))) ≤ length (variables p) + length (variables q)
-  resolution-few = few_pairs sig ins p q first second left_sorted right_sorted (ResolveMeets p i q j) (resolvent p i q j) (resolution-natural sig ins p i q j first second)
       (asked (atom_at i p) (atom_at j q) p.answer q.answer) told holding

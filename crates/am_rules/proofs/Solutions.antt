@@ -1,5 +1,5 @@
 -- What a rule of two parents gives by unification is right.
-use Rattle.std.proofs.Common.{◌≡◌, ◌∙◌, ◌+◌, ◌<◌, ◌≤◌, inl, inr, ℕ, arith, true, sym, ap, subst, List, [], ◌∷◌, map, length, Option, Some, None, option_map}
+use Rattle.std.proofs.Common.{◌≡◌, ◌∙◌, ℕ, true, sym, ap, List, [], ◌∷◌, map, length, Option, Some, None, option_map}
 use Rattle.std.specs.List.{AllByRecursion}
 use Rattle.am_term.specs.declared.id.SortId.{SortId}
 use Rattle.am_term.specs.declared.signature.Signature.{Signature}
@@ -18,24 +18,19 @@ use Rattle.am_unify.specs.Substitution.{applies}
 use Rattle.am_unify.proofs.Solved.{mgu-solved}
 use Rattle.am_rules.specs.Made.{IsMade, IsAnswer, IsNatural}
 use Rattle.am_rules.specs.Most.{AreInstances}
-use Rattle.am_rules.specs.Row.{row, in_lists, variables_of}
 use Rattle.am_rules.specs.Parts.{answer_terms}
 use Rattle.am_rules.specs.Resolution.{atom_at}
 use Rattle.am_rules.specs.Binding.{Binds, OfTwo, of_two}
 use Rattle.am_rules.specs.Asked.{Pairs}
 use Rattle.am_rules.specs.Solving.{apart, images, solved_apart, made_by}
-use Rattle.am_rules.proofs.Standing.{within-cases, Each, each-left, each-right, each-head, each-tail}
+use Rattle.am_rules.proofs.Standing.{Each, each-left, each-right, each-head, each-tail}
 use Rattle.am_rules.proofs.Lifts.{literals-each}
 use Rattle.am_rules.proofs.AskedLaws.{Told, Tells, Holding}
-use Rattle.am_rules.proofs.Posing.{HasSort, HasOne, Valid, atoms-sorted, answer-sorted, clause-valid}
-use Rattle.am_rules.proofs.Joining.{At, counted-at, sorts, Left, Right, Pairing, apart-posed, joint, joint-unifier, lefts-fit, rights-fit, unite, images-keep, lefts-factor, rights-factor, all_fine}
+use Rattle.am_rules.proofs.Posing.{HasOne, Valid, atoms-sorted, answer-sorted, clause-valid}
+use Rattle.am_rules.proofs.Joining.{At, counted-at, sorts, Left, Right, Pairing, apart-posed, joint, joint-unifier, lefts-fit, rights-fit, unite, images-keep, lefts-factor, rights-factor}
 use Rattle.am_rules.proofs.RowLaws.{in-variables}
-use Rattle.am_rules.proofs.Bounding.{pairs_span, each-spans, sorted-few, all_low, all-each}
-use Rattle.am_rules.proofs.InstanceLaws.{Below, numbered-below}
-use Rattle.am_term.specs.Span.{spans}
 use Rattle.am_rules.proofs.Numberings.{made-numbered}
 use Rattle.am_rules.proofs.Resolvents.{atom-each}
-use Rattle.am_clause.specs.NumberedMade.{variables_in}
 use Rattle.am_term.specs.Parts.{parts_of}
 use Rattle.am_clause.specs.SortedClause.{is_sorted_clause}
 
@@ -130,19 +125,6 @@ module _ (sig : Signature) (ins : List SortId) (p q : Clause) (first : IsNumbere
         meets = meet;
       }
 
-      pub made-low : Each (λ v. (v.0 < length (variables p) + length (variables q)) × HasSort ss v) (variables_in (row (make xs ys) (xs ∷ ys ∷ [])))
-      made-low v m =
-          let inside : Within v (in_lists (xs ∷ ys ∷ [])) = elim (within-cases v (in_clause (make xs ys)) (in_lists (xs ∷ ys ∷ [])) m) [
-            | inl a ↦ natural.inner (xs ∷ ys ∷ []) such v a
-            | inr b ↦ b
-          ] in (
-            all_low sig ins (variables p) (variables q) first second (apart (length (variables p)) ps) (pairs_span sig ins (variables p) (variables q) first second ps pairing) bs solved v inside,
-            (all_fine sig ins (variables p) (variables q) first second p_valid q_valid (apart (length (variables p)) ps) bs solved v inside).0,
-          )
-
-      few : length (variables_of (row (make xs ys) (xs ∷ ys ∷ []))) ≤ length (variables p) + length (variables q)
-      few = sorted-few ss (length (variables p) + length (variables q)) (variables_in (row (make xs ys) (xs ∷ ys ∷ []))) made-low
-
       factors : (ws : List (List Term)) → Such ws → AreInstances sig ins ws (xs ∷ ys ∷ [])
       factors [] k = absurd k
       factors (us ∷ []) k = absurd k
@@ -165,33 +147,8 @@ module _ (sig : Signature) (ins : List SortId) (p q : Clause) (first : IsNumbere
     by_solution None h = no-unifier h
     by_solution (Some bs) h = made bs h
 
-    few_solution : (bs : List (ℕ × Term)) → mgu sig ins (apart (length (variables p)) ps) ≡ Some bs
-        → length (variables_of (row (make (images bs 0 (variables p)) (images bs (length (variables p)) (variables q))) (images bs 0 (variables p) ∷ images bs (length (variables p)) (variables q) ∷ []))) ≤ length (variables p) + length (variables q)
-    few_solution bs e = few bs (subst (IsSolved sig ins ss (apart (length (variables p)) ps)) e (mgu-solved sig ins ss (apart (length (variables p)) ps) (apart-posed sig ins (variables p) (variables q) first second ps pairing)))
-
-  pub few_pairs : (o : Pairs) → ((f g : Term → Term) → Told f g (Meets f g) o) → Holding S T o → (bs : List (ℕ × Term)) → solved_apart sig ins (length (variables p)) o ≡ Some bs
-      → length (variables_of (row (make (images bs 0 (variables p)) (images bs (length (variables p)) (variables q))) (images bs 0 (variables p) ∷ images bs (length (variables p)) (variables q) ∷ []))) ≤ length (variables p) + length (variables q)
-  few_pairs None told hold bs e = absurd cc
-  few_pairs (Some ps) told hold bs e = few_solution ps told hold bs e
-
   pub by_pairs : (o : Pairs) → ((f g : Term → Term) → Told f g (Meets f g) o) → Holding S T o
       → IsAnswer sig ins Such (of_two make) (option_map (made_by p q make) (solved_apart sig ins (length (variables p)) o))
   by_pairs None told hold = no-pairs told
   by_pairs (Some ps) told hold = by_solution ps told hold (mgu sig ins (apart (length (variables p)) ps))
       (mgu-solved sig ins (ss ps told hold) (apart (length (variables p)) ps) (apart-posed sig ins (variables p) (variables q) first second ps hold))
-
--- the terms of a numbered clause span no more than its variables
-pub atom-span : (c : Clause) → IsNumbered c → (i : ℕ) (a : Atom) → atom_at i c ≡ Some a → spans (parts_of a) ≤ length (variables c)
-atom-span c h i a e = each-spans (length (variables c)) (parts_of a) (atom-terms (Below (length (variables c))) a
-    (atom-each (Below (length (variables c))) i c.literals (literals-each (Below (length (variables c))) c.literals (each-left (Below (length (variables c))) (in_literals c.literals) (in_answer c.answer) (numbered-below c h))) a e))
-
-pub clause-atom-below : (c : Clause) → IsNumbered c → (i : ℕ) (a : Atom) → atom_at i c ≡ Some a → Each (Below (length (variables c))) (in_atom a)
-clause-atom-below c h i a e = atom-each (Below (length (variables c))) i c.literals (literals-each (Below (length (variables c))) c.literals (each-left (Below (length (variables c))) (in_literals c.literals) (in_answer c.answer) (numbered-below c h))) a e
-
-pub answer-span : (c : Clause) → IsNumbered c → spans (answer_terms c.answer) ≤ length (variables c)
-answer-span c h = each-spans (length (variables c)) (answer_terms c.answer) (answers-terms (Below (length (variables c))) c.answer
-    (each-right (Below (length (variables c))) (in_literals c.literals) (in_answer c.answer) (numbered-below c h)))
-
--- the variables of a numbered clause
-pub variables-below : (c : Clause) → IsNumbered c → (k n : ℕ) → length (variables c) + k < n → AllByRecursion (λ (v : Variable). v.0 + k < n) (variables c)
-variables-below c h k n l = all-each (λ v. v.0 + k < n) (variables c) (λ v m. let b : v.0 < length (variables c) = numbered-below c h v (in-variables v c m) in omega arith)

@@ -96,7 +96,7 @@ module _ (xs : List Term) where
 abbrev atom_in : Option Literal → Option Atom
 atom_in o = option_map (λ (l : Literal). l.atom) o
 
-side-is : (side : Side) (o : Option Literal) → option_and_then (side_of side) (atom_in o) ≡ side_at side o
+pub side-is : (side : Side) (o : Option Literal) → option_and_then (side_of side) (atom_in o) ≡ side_at side o
 side-is side None = refl
 side-is side (Some l) = refl
 
@@ -110,7 +110,7 @@ other-is : (side : Side) (o : Option Literal) → option_and_then (other_of side
 other-is side None = refl
 other-is side (Some l) = other-of-is side l.atom
 
-part-is : (path : List ℕ) (o : Option Literal) → option_and_then (place_in path) (atom_in o) ≡ part_at path o
+pub part-is : (path : List ℕ) (o : Option Literal) → option_and_then (place_in path) (atom_in o) ≡ part_at path o
 part-is path None = refl
 part-is path (Some l) = refl
 
@@ -199,7 +199,7 @@ module _ (sig : Signature) (ins : List SortId) (p : Clause) (j : ℕ) (side : Si
     abbrev qs : List Literal
     qs = map (instance_literal ys) q.literals
 
-    side-there : side_at side (member ps j) ≡ option_map (instance xs) (side_in p j side)
+    pub side-there : side_at side (member ps j) ≡ option_map (instance xs) (side_in p j side)
     side-there = ap (side_at side) (member-is xs j p.literals) ∙ (side-at-instance xs side (member p.literals j) ∙ ap (option_map (instance xs)) (sym (side-is side (member p.literals j))))
 
     other-there : side_at (turned side) (member ps j) ≡ option_map (instance xs) (other_in p j side)
@@ -217,7 +217,7 @@ module _ (sig : Signature) (ins : List SortId) (p : Clause) (j : ℕ) (side : Si
     abbrev new : Option Term
     new = option_map (instance xs) (other_in p j side)
 
-    paramodulant-is : record { literals = merged (with_other (side_at (turned side) (member ps j)) path (member qs i) qs i ++ without ps j); answer = answer } ≡ paramodulant p j side q i path xs ys
+    pub paramodulant-is : record { literals = merged (with_other (side_at (turned side) (member ps j)) path (member qs i) qs i ++ without ps j); answer = answer } ≡ paramodulant p j side q i path xs ys
     paramodulant-is =
         ap (λ o. clause (merged (with_other o path (member qs i) qs i ++ without ps j)) answer) other-there
         ∙ (ap (λ ls. clause (merged (ls ++ without ps j)) answer) (other-put new path i qs)

@@ -10,7 +10,7 @@ use Rattle.am_term.specs.Instance.{instance_laws}
 use Rattle.am_term.specs.Span.{span_laws}
 use Rattle.am_term.proofs.Spans.{span-le-spans}
 use Rattle.am_term.proofs.Members.{member-zero, member-past, member-within, member-get, with_member-set}
-use Rattle.am_rules.specs.Replacing.{changed, put_part, put_instance, put_instances, put_instances-is}
+use Rattle.am_rules.specs.Replacing.{changed, put_part, put_instance, put_instances}
 use Rattle.am_unify.proofs.Walks.{bound_at, removed_first, zip-stopped}
 use Rattle.am_rules.specs.Asked.{Pairs, both}
 use Rattle.am_rules.specs.Parts.{all_but, added_unless, literal_under}
@@ -120,8 +120,6 @@ unfolding put_instances put_instance
 put-step made now left next new path with l rest is e = changed-step (put_part new path) (literal_under with) made now left next l rest is e
 
 pub ruleset changing = (common_steps, nat_tests, put-none, put-step)
-
-pub ruleset parting = (common_steps, put_instances-is)
 
 pub ruleset fitting = (sorting)
 

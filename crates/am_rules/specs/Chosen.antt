@@ -19,8 +19,8 @@ abbrev pub all_chosen : Signature → List SortId → List Variable → Option (
 all_chosen sig ins [] = Some []
 all_chosen sig ins (v ∷ vs) = one_more (closing_term sig ins v.1) (all_chosen sig ins vs)
 
-abbrev pub closed : Clause → List Term → Made
-closed p xs = row (record { literals = []; answer = answer_under xs p.answer }) (xs ∷ [])
+abbrev pub closed_by : Clause → List Term → Made
+closed_by p xs = row (record { literals = []; answer = answer_under xs p.answer }) (xs ∷ [])
 
 abbrev pub closing : Signature → List SortId → Clause → Option Made
-closing sig ins p = option_map (closed p) (all_chosen sig ins (variables p))
+closing sig ins p = option_map (closed_by p) (all_chosen sig ins (variables p))

@@ -12,3 +12,5 @@ pub mod Alone
 pub mod Inference
 pub mod Closing
 pub mod Chosen
+pub mod Rewriting
+pub mod Conclusions

@@ -1,6 +1,5 @@
 -- For the private contracts and the proofs of this crate alone: the atom with another term at a path, whose first number names an argument or a side, from 1.
-use Rattle.std.specs.Prelude.{◌≡◌, ◌==◌, ◌-◌, ℕ, Bool, List, [], ◌∷◌, map, Option, Some, None, option_and_then, if◌then◌else◌}
-use Rattle.std.proofs.Common.{refl}
+use Rattle.std.specs.Prelude.{◌==◌, ◌-◌, ℕ, Bool, List, [], ◌∷◌, map, Option, Some, None, option_and_then, if◌then◌else◌}
 use Rattle.am_term.specs.declared.term.Term.{Term}
 use Rattle.am_term.specs.declared.term.Atom.{Atom}
 use Rattle.am_term.specs.declared.term.Atom.TheVariants.{Rel, Eq}
@@ -46,7 +45,3 @@ put_instance there new path with l = if there then put_part new path (literal_un
 -- the instances, the i-th with another part
 unfoldable pub put_instances : ℕ → Option Term → List ℕ → List Term → List Literal → List Literal
 put_instances i new path with ls = changed i (put_part new path) (map (literal_under with) ls)
-
-pub put_instances-is : (i : ℕ) (new : Option Term) (path : List ℕ) (with : List Term) (ls : List Literal) → put_instances i new path with ls ≡ changed i (put_part new path) (map (literal_under with) ls)
-unfolding put_instances
-put_instances-is i new path with ls = refl

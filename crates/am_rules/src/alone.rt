@@ -1,15 +1,12 @@
-ghost use Rattle.std.specs.Prelude.{◌≡◌, ◌<◌, ◌∷◌, [], ℕ, List, None, Some, IfOk, IsTrue, length, option_and_then};
+ghost use Rattle.std.specs.Prelude.{◌≡◌, ◌∷◌, [], None, Some, IfOk, IsTrue};
 ghost use Rattle.am_clause.specs.Numbered.{IsNumbered};
-ghost use Rattle.am_clause.specs.Variables.{variables};
-ghost use Rattle.am_unify.specs.Mgu.{mgu};
-ghost use Rattle.am_unify.specs.Unifier.{bindings_of};
-ghost use Rattle.am_rules.specs.Alone.{kept, sides, made_alone as is_made_alone, solved_alone, factoring as is_factoring, reflexion as is_reflexion};
+ghost use Rattle.am_rules.specs.Alone.{kept, sides, made_alone as is_made_alone, factoring as is_factoring, reflexion as is_reflexion};
 ghost use Rattle.am_rules.specs.Asked.{asked};
 ghost use Rattle.am_rules.specs.Inference.{AnswersOne};
 ghost use Rattle.am_clause.specs.Rules.{factor as factor_rule, reflex as reflex_rule};
 ghost use Rattle.am_rules.specs.Resolution.{atom_at};
-ghost use Rattle.am_rules.specs.Row.{row, variables_of};
-ghost use Rattle.am_rules.specs.Solving.{images};
+ghost use Rattle.am_rules.specs.Row.{row};
+ghost use Rattle.am_rules.specs.Conclusions.{factored, reflexed};
 ghost use Rattle.am_clause.specs.SortedClause.{is_sorted_clause};
 ghost use Rattle.am_clause.specs.NumberedMade.{numbered_made};
 
@@ -24,7 +21,8 @@ use sqlite_items::Items;
 use std::alloc::Global;
 
 /// The clause by most general bindings that make the atoms of literals i and j one, places from 1. None exactly where
-/// no well-sorted bindings do.
+/// these aren't there with one sign, or no well-sorted bindings do.
+#[tactic(auto, using(crate::proofs::Concluded::concluding))]
 pub fn factor(
     alloc: Global,
     ctx: &Ctx,
@@ -32,10 +30,8 @@ pub fn factor(
     i: u32,
     j: u32,
 ) -> Result<Option<Made>, NoMemory>
-    requires numbered { IsNumbered p.now }
-    requires sorted { IsTrue (is_sorted_clause ctx.now.sig.now ctx.now.ins.now p.now) }
-    requires few { length (variables p.now) < 1000000000 }
-    ensures { IfOk result (λ o. AnswersOne ctx.now.sig.now ctx.now.ins.now (factor_rule i j) p.now o) }
+    ensures is { IfOk result (λ o. o ≡ factored ctx.now.sig.now ctx.now.ins.now p.now i j) }
+    ensures inference { IsNumbered p.now → IsTrue (is_sorted_clause ctx.now.sig.now ctx.now.ins.now p.now) → IfOk result (λ o. AnswersOne ctx.now.sig.now ctx.now.ins.now (factor_rule i j) p.now o) }
 {
     let is_suited = suits_factor(p, i, j);
     if !is_suited {
@@ -44,11 +40,7 @@ pub fn factor(
     factoring(alloc, ctx, p, i, j)
 }
 
-#[tactic(auto, using(crate::proofs::FactorCode::factoring_code))]
 fn factoring(alloc: Global, ctx: &Ctx, p: &Clause, i: u32, j: u32) -> Result<Option<Made>, NoMemory>
-    requires numbered { IsNumbered p.now }
-    requires sorted { IsTrue (is_sorted_clause ctx.now.sig.now ctx.now.ins.now p.now) }
-    requires few { length (variables p.now) < 1000000000 }
     ensures { IfOk result (λ o. o ≡ is_factoring ctx.now.sig.now ctx.now.ins.now p.now i j) }
 {
     match factor_pairs(alloc, p, i, j)? {
@@ -68,8 +60,6 @@ fn factor_pairs(
     i: u32,
     j: u32,
 ) -> Result<Option<Items<(Term, Term)>>, NoMemory>
-    requires numbered { IsNumbered p.now }
-    requires few { length (variables p.now) < 1000000000 }
     ensures { IfOk result (λ o. o ≡ asked (atom_at i p.now) (atom_at j p.now) None None) }
 {
     match literal_at(p.literals.as_slice(), i) {
@@ -82,12 +72,11 @@ fn factor_pairs(
 }
 
 /// The clause without equation i by most general bindings that make its sides one, places from 1. None exactly where
-/// no well-sorted bindings do.
+/// there is no such negative equation, or no well-sorted bindings do.
+#[tactic(auto, using(crate::proofs::Concluded::concluding))]
 pub fn reflex(alloc: Global, ctx: &Ctx, p: &Clause, i: u32) -> Result<Option<Made>, NoMemory>
-    requires numbered { IsNumbered p.now }
-    requires sorted { IsTrue (is_sorted_clause ctx.now.sig.now ctx.now.ins.now p.now) }
-    requires few { length (variables p.now) < 1000000000 }
-    ensures { IfOk result (λ o. AnswersOne ctx.now.sig.now ctx.now.ins.now (reflex_rule i) p.now o) }
+    ensures is { IfOk result (λ o. o ≡ reflexed ctx.now.sig.now ctx.now.ins.now p.now i) }
+    ensures inference { IsNumbered p.now → IsTrue (is_sorted_clause ctx.now.sig.now ctx.now.ins.now p.now) → IfOk result (λ o. AnswersOne ctx.now.sig.now ctx.now.ins.now (reflex_rule i) p.now o) }
 {
     let is_suited = suits_reflex(p, i);
     if !is_suited {
@@ -96,11 +85,7 @@ pub fn reflex(alloc: Global, ctx: &Ctx, p: &Clause, i: u32) -> Result<Option<Mad
     reflexion(alloc, ctx, p, i)
 }
 
-#[tactic(auto, using(crate::proofs::FactorCode::factoring_code))]
 fn reflexion(alloc: Global, ctx: &Ctx, p: &Clause, i: u32) -> Result<Option<Made>, NoMemory>
-    requires numbered { IsNumbered p.now }
-    requires sorted { IsTrue (is_sorted_clause ctx.now.sig.now ctx.now.ins.now p.now) }
-    requires few { length (variables p.now) < 1000000000 }
     ensures { IfOk result (λ o. o ≡ is_reflexion ctx.now.sig.now ctx.now.ins.now p.now i) }
 {
     match reflex_pairs(alloc, p, i)? {
@@ -139,9 +124,6 @@ fn sides_of(alloc: Global, atom: &Atom) -> Result<Option<Items<(Term, Term)>>, N
 
 // The row that is made of the bindings, without the i-th literal.
 fn made_alone(alloc: Global, p: &Clause, i: u32, found: &Subst) -> Result<Made, NoMemory>
-    requires numbered { IsNumbered p.now }
-    requires fits { length (variables p.now) < 1000000000 }
-    requires few { length (variables_of (row (kept p.now i (images found.now.0 0 (variables p.now))) (images found.now.0 0 (variables p.now) ∷ []))) < 4000000000 }
     ensures { IfOk result (λ m. m ≡ is_made_alone p.now (kept p.now i) found.now.0) }
 {
     let variables = clause_variables(alloc, p)?;
@@ -150,7 +132,6 @@ fn made_alone(alloc: Global, p: &Clause, i: u32, found: &Subst) -> Result<Made, 
 }
 
 fn made_row(alloc: Global, p: &Clause, i: u32, with: Items<Term>) -> Result<Made, NoMemory>
-    requires few { length (variables_of (row (kept p.now i with) (with ∷ []))) < 4000000000 }
     ensures { IfOk result (λ m. m ≡ numbered_made (row (kept p.now i with) (with ∷ []))) }
 {
     let literals = instances_without(alloc, p.literals.as_slice(), i, with.as_slice())?;

@@ -1,14 +1,11 @@
-ghost use Rattle.std.specs.Prelude.{◌≡◌, ◌+◌, ◌<◌, [], ◌∷◌, Some, IfOk, option_map};
-ghost use Rattle.std.specs.List.{AllByRecursion, zip};
-ghost use Rattle.am_term.specs.Span.{span, spans};
+ghost use Rattle.std.specs.Prelude.{◌≡◌, [], ◌∷◌, Some, IfOk, option_map};
+ghost use Rattle.std.specs.List.{zip};
 ghost use Rattle.am_term.specs.declared.term.Term.TheVariants.{Var};
-ghost use Rattle.am_clause.specs.Variables.{Variable};
-ghost use Rattle.am_unify.specs.Substitution.{bound_to, listed};
+ghost use Rattle.am_unify.specs.Substitution.{bound_to};
 ghost use Rattle.am_rules.specs.Asked.{zipped, atom_pairs, answer_pairs, asked};
-ghost use Rattle.am_rules.specs.Parts.{answer_terms};
 ghost use Rattle.am_rules.specs.Solving.{apart, shifted, all_shifted, images};
-ghost use Rattle.am_term.specs.Parts.{parts_of};
 
+use crate::numbers::raised;
 use am_term::{Atom, NoMemory, SortId, Term, copies, copy};
 use sqlite_items::Items;
 use std::alloc::Global;
@@ -17,12 +14,11 @@ use std::alloc::Global;
 #[cycle(shifting)]
 #[tactic(auto, using(crate::proofs::Walks::shifting))]
 pub fn shift(alloc: Global, term: &Term, k: u32) -> Result<Term, NoMemory>
-    requires fits { span term.now + k < 4000000000 }
     ensures { IfOk result (λ t. t ≡ shifted k term.now) }
 {
     match term {
         Term::Var { n, sort } => Ok(Term::Var {
-            n: *n + k,
+            n: raised(*n, k)?,
             sort: *sort,
         }),
         Term::In { k: input } => Ok(Term::In { k: *input }),
@@ -36,7 +32,6 @@ pub fn shift(alloc: Global, term: &Term, k: u32) -> Result<Term, NoMemory>
 #[cycle(shifting)]
 #[tactic(auto, using(crate::proofs::Walks::shifting))]
 fn shift_all(alloc: Global, terms: &[Term], k: u32) -> Result<Items<Term>, NoMemory>
-    requires fits { spans terms.now + k < 4000000000 }
     ensures { IfOk result (λ ts. ts ≡ all_shifted k terms.now) }
 {
     let mut made = Items::new(alloc);
@@ -54,7 +49,6 @@ fn pairs_apart(
     right: &[Term],
     k: u32,
 ) -> Result<Option<Items<(Term, Term)>>, NoMemory>
-    requires fits { spans right.now + k < 4000000000 }
     ensures { IfOk result (λ o. o ≡ option_map (apart k) (zipped left.now right.now)) }
 {
     if left.len() != right.len() {
@@ -109,7 +103,6 @@ fn atoms_apart(
     second: &Atom,
     k: u32,
 ) -> Result<Option<Items<(Term, Term)>>, NoMemory>
-    requires fits { spans (parts_of second.now) + k < 4000000000 }
     ensures { IfOk result (λ o. o ≡ option_map (apart k) (atom_pairs first.now second.now)) }
 {
     match (first, second) {
@@ -143,7 +136,6 @@ pub fn answers_apart(
     second: &Option<Items<Term>>,
     k: u32,
 ) -> Result<Option<Items<(Term, Term)>>, NoMemory>
-    requires fits { spans (answer_terms second.now) + k < 4000000000 }
     ensures { IfOk result (λ o. o ≡ option_map (apart k) (answer_pairs first.now second.now)) }
 {
     match first {
@@ -165,8 +157,6 @@ pub fn asked_apart(
     other: &Option<Items<Term>>,
     k: u32,
 ) -> Result<Option<Items<(Term, Term)>>, NoMemory>
-    requires atom { spans (parts_of second.now) + k < 4000000000 }
-    requires answer { spans (answer_terms other.now) + k < 4000000000 }
     ensures { IfOk result (λ o. o ≡ option_map (apart k) (asked (Some first.now) (Some second.now) answer.now other.now)) }
 {
     match atoms_apart(alloc, first, second, k)? {
@@ -202,13 +192,12 @@ pub fn images_of(
     k: u32,
     variables: &[(u32, SortId)],
 ) -> Result<Items<Term>, NoMemory>
-    requires fits { AllByRecursion (λ (v : Variable). v.0 + k < 4000000000) variables.now }
     ensures { IfOk result (λ ts. ts ≡ images found.now k variables.now) }
 {
     let mut made = Items::new(alloc);
     let mut rest = variables;
     'images: while let [variable, behind @ ..] = rest {
-        let n = variable.0 + k;
+        let n = raised(variable.0, k)?;
         made.push(binding_of(alloc, found, n, variable.1)?)?;
         rest = behind;
     }

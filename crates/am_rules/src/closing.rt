@@ -1,12 +1,13 @@
-ghost use Rattle.std.specs.Prelude.{◌≡◌, ◌<◌, ◌∷◌, [], IfOk, IsTrue, length};
+ghost use Rattle.std.specs.Prelude.{◌≡◌, IfOk};
 ghost use Rattle.am_term.specs.Sorting.{fits_place};
 ghost use Rattle.am_clause.specs.Numbered.{IsNumbered};
 ghost use Rattle.am_clause.specs.Rules.{close as close_rule};
-ghost use Rattle.am_clause.specs.Variables.{variables};
-ghost use Rattle.am_rules.specs.Chosen.{all_chosen, closed as is_closed, closing as is_closing};
+ghost use Rattle.am_rules.specs.Chosen.{all_chosen, closed_by as is_closed_by, closing as is_closing};
+ghost use Rattle.am_rules.specs.Conclusions.{closed as is_closed};
 ghost use Rattle.am_rules.specs.Closing.{input_for as first_input, is_constant_for, constant_for as first_constant, closing_term as chosen_term, AnswersClosing};
 
 use crate::instancing::instance_of_answer;
+use crate::numbers::numbered;
 use am_clause::{Clause, Made, clause_variables};
 use am_term::{Ctx, NoMemory, SortId, SymId, Symbol, Term, fits};
 use sqlite_items::Items;
@@ -15,11 +16,10 @@ use std::alloc::Global;
 /// The clause, which has no literals but an answer, with each variable of the answer replaced by the first input
 /// whose sort fits, else by the first computable constant. None exactly where the clause isn't of that kind or a
 /// variable has neither.
+#[tactic(auto, using(crate::proofs::Concluded::concluding))]
 pub fn close(alloc: Global, ctx: &Ctx, p: &Clause) -> Result<Option<Made>, NoMemory>
-    requires numbered { IsNumbered p.now }
-    requires few_inputs { length ctx.now.ins.now < 1000000000 }
-    requires few_symbols { length ctx.now.sig.now.symbols < 1000000000 }
-    ensures { IfOk result (λ o. AnswersClosing ctx.now.sig.now ctx.now.ins.now p.now o) }
+    ensures is { IfOk result (λ o. o ≡ is_closed ctx.now.sig.now ctx.now.ins.now p.now) }
+    ensures inference { IsNumbered p.now → IfOk result (λ o. AnswersClosing ctx.now.sig.now ctx.now.ins.now p.now o) }
 {
     let is_suited = suits_close(p);
     if !is_suited {
@@ -35,19 +35,17 @@ fn suits_close(p: &Clause) -> bool
 }
 
 fn closing(alloc: Global, ctx: &Ctx, p: &Clause) -> Result<Option<Made>, NoMemory>
-    requires few_inputs { length ctx.now.ins.now < 1000000000 }
-    requires few_symbols { length ctx.now.sig.now.symbols < 1000000000 }
     ensures { IfOk result (λ o. o ≡ is_closing ctx.now.sig.now ctx.now.ins.now p.now) }
 {
     let variables = clause_variables(alloc, p)?;
     match closing_terms(alloc, ctx, variables.as_slice())? {
-        Some(with) => Ok(Some(closed(alloc, p, with)?)),
+        Some(with) => Ok(Some(closed_by(alloc, p, with)?)),
         None => Ok(None),
     }
 }
 
-fn closed(alloc: Global, p: &Clause, with: Items<Term>) -> Result<Made, NoMemory>
-    ensures { IfOk result (λ m. m ≡ is_closed p.now with) }
+fn closed_by(alloc: Global, p: &Clause, with: Items<Term>) -> Result<Made, NoMemory>
+    ensures { IfOk result (λ m. m ≡ is_closed_by p.now with) }
 {
     let literals = Items::new(alloc);
     let answer = instance_of_answer(alloc, &p.answer, with.as_slice())?;
@@ -66,14 +64,12 @@ fn closing_terms(
     ctx: &Ctx,
     variables: &[(u32, SortId)],
 ) -> Result<Option<Items<Term>>, NoMemory>
-    requires few_inputs { length ctx.now.ins.now < 1000000000 }
-    requires few_symbols { length ctx.now.sig.now.symbols < 1000000000 }
     ensures { IfOk result (λ o. o ≡ all_chosen ctx.now.sig.now ctx.now.ins.now variables.now) }
 {
     let mut made = Items::new(alloc);
     let mut rest = variables;
     'all: while let [variable, behind @ ..] = rest {
-        let Some(term) = closing_term(alloc, ctx, variable.1) else {
+        let Some(term) = closing_term(alloc, ctx, variable.1)? else {
             return Ok(None);
         };
         made.push(term)?;
@@ -82,52 +78,28 @@ fn closing_terms(
     Ok(Some(made))
 }
 
-fn closing_term(alloc: Global, ctx: &Ctx, sort: SortId) -> Option<Term>
-    requires few_inputs { length ctx.now.ins.now < 1000000000 }
-    requires few_symbols { length ctx.now.sig.now.symbols < 1000000000 }
-    ensures { result ≡ chosen_term ctx.now.sig.now ctx.now.ins.now sort }
+fn closing_term(alloc: Global, ctx: &Ctx, sort: SortId) -> Result<Option<Term>, NoMemory>
+    ensures { IfOk result (λ o. o ≡ chosen_term ctx.now.sig.now ctx.now.ins.now sort) }
 {
     match input_for(ctx, sort) {
-        Some(k) => Some(Term::In { k }),
+        Some(k) => Ok(Some(Term::In { k: numbered(k)? })),
         None => match constant_for(ctx, sort) {
-            Some(n) => Some(Term::App {
-                f: SymId(n),
+            Some(n) => Ok(Some(Term::App {
+                f: SymId(numbered(n)?),
                 args: Items::new(alloc),
-            }),
-            None => None,
+            })),
+            None => Ok(None),
         },
     }
 }
 
-#[tactic(auto, using(crate::proofs::Closings::finding))]
-fn input_for(ctx: &Ctx, sort: SortId) -> Option<u32>
-    requires few_inputs { length ctx.now.ins.now < 1000000000 }
-    ensures { result ≡ first_input ctx.now.sig.now ctx.now.ins.now sort }
-{
-    match fitting_input(ctx, sort) {
-        Some(k) => Some(k as u32),
-        None => None,
-    }
-}
-
-fn fitting_input(ctx: &Ctx, sort: SortId) -> Option<usize>
+fn input_for(ctx: &Ctx, sort: SortId) -> Option<usize>
     ensures { result ≡ first_input ctx.now.sig.now ctx.now.ins.now sort }
 {
     ctx.ins.iter().position(|input| fits(ctx.sig, *input, sort))
 }
 
-#[tactic(auto, using(crate::proofs::Closings::finding))]
-fn constant_for(ctx: &Ctx, sort: SortId) -> Option<u32>
-    requires few_symbols { length ctx.now.sig.now.symbols < 1000000000 }
-    ensures { result ≡ first_constant ctx.now.sig.now sort }
-{
-    match fitting_constant(ctx, sort) {
-        Some(n) => Some(n as u32),
-        None => None,
-    }
-}
-
-fn fitting_constant(ctx: &Ctx, sort: SortId) -> Option<usize>
+fn constant_for(ctx: &Ctx, sort: SortId) -> Option<usize>
     ensures { result ≡ first_constant ctx.now.sig.now sort }
 {
     ctx.sig

@@ -1,5 +1,5 @@
 ghost use Rattle.std.specs.Prelude.{◌≡◌, option_copied};
-ghost use Rattle.am_clause.specs.Rules.{have_one_sign, is_equation as names_equation, is_equation_of as names_equation_of, are_opposite as have_opposite_signs, has_place as names_place, factor as factor_rule, reflex as reflex_rule, resolve as resolve_rule, para as para_rule};
+ghost use Rattle.am_clause.specs.Rules.{have_one_sign, is_equation as names_equation, is_equation_of as names_equation_of, are_opposite as have_opposite_signs, has_place as names_place, factor as factor_rule, reflex as reflex_rule, resolve as resolve_rule, para as para_rule, rewrite as rewrite_rule};
 
 use crate::instancing::literal_at;
 use crate::replacing::part_of;
@@ -39,6 +39,13 @@ pub fn suits_para(p: &Clause, j: u32, side: Side, q: &Clause, i: u32, path: &[u3
 {
     is_equation_of(true, literal_at(p.literals.as_slice(), j))
         && has_place(literal_at(q.literals.as_slice(), i), path)
+}
+
+/// Whether p has one literal, which is a positive equation, and no answer, and literal i of q has a part at the path.
+pub fn suits_rewrite(p: &Clause, side: Side, q: &Clause, i: u32, path: &[u32]) -> bool
+    ensures { result ≡ (rewrite_rule 1 side i path.now).suits p.now q.now }
+{
+    p.literals.len() == 1 && (p.answer.is_none() && suits_para(p, 1, side, q, i, path))
 }
 
 #[tactic(auto, using(crate::proofs::Walks::ruling))]

@@ -1,19 +1,19 @@
-ghost use Rattle.std.specs.Prelude.{◌≡◌, ◌+◌, ◌<◌, ◌∷◌, [], IfOk, IsTrue, length, option_copied, option_map};
+ghost use Rattle.std.specs.Prelude.{◌≡◌, ◌∷◌, [], IfOk, IsTrue, option_copied, option_map};
 ghost use Rattle.am_term.specs.Instance.{instance};
-ghost use Rattle.am_term.specs.Span.{span};
 ghost use Rattle.am_clause.specs.Numbered.{IsNumbered};
 ghost use Rattle.am_clause.specs.Variables.{variables};
 ghost use Rattle.am_unify.specs.Unifier.{bindings_of};
 ghost use Rattle.am_rules.specs.Inference.{AnswersSorted};
 ghost use Rattle.am_clause.specs.Rules.{para as para_rule};
-ghost use Rattle.am_rules.specs.Row.{row, variables_of};
-ghost use Rattle.am_rules.specs.Solving.{apart, solved_apart, made_of as is_made_of};
+ghost use Rattle.am_rules.specs.Conclusions.{paramodulated};
+ghost use Rattle.am_rules.specs.Solving.{apart, images, solved_apart, made_of as is_made_of};
 ghost use Rattle.am_rules.specs.Paramodulation.{side_in as is_side_at, other_in as is_other_at, part_in as is_part_at, paramodulant, replaced_literals, term_pairs, para_pairs, paramodulation as is_paramodulation, sorted_only};
 ghost use Rattle.am_clause.specs.SortedClause.{is_sorted_clause};
 
 use crate::asking::{answers_apart, images_of, shift};
 use crate::instancing::{instance_of, instances_without, literal_at};
 use crate::kinds::suits_para;
+use crate::numbers::numbered;
 use crate::replacing::{instances_changed, other_of, part_of, side_of};
 use crate::resolving::{joint_answer, two_lists};
 use crate::rows::renumber_made;
@@ -26,7 +26,9 @@ use std::alloc::Global;
 
 /// The second clause with the part of literal i at a path replaced by the other side of equation j of the first, by most
 /// general bindings that make the named side and the part one, and the answers if both have one. None exactly where
-/// no well-sorted bindings do, or the conclusion isn't well sorted.
+/// the equation isn't there or not positive, there is no such part, no well-sorted bindings do, or the conclusion isn't
+/// well sorted.
+#[tactic(auto, using(crate::proofs::Concluded::concluding))]
 pub fn paramodulate(
     alloc: Global,
     ctx: &Ctx,
@@ -37,13 +39,8 @@ pub fn paramodulate(
     i: u32,
     path: &[u32],
 ) -> Result<Option<Made>, NoMemory>
-    requires p_numbered { IsNumbered p.now }
-    requires q_numbered { IsNumbered q.now }
-    requires p_sorted { IsTrue (is_sorted_clause ctx.now.sig.now ctx.now.ins.now p.now) }
-    requires q_sorted { IsTrue (is_sorted_clause ctx.now.sig.now ctx.now.ins.now q.now) }
-    requires p_few { length (variables p.now) < 1000000000 }
-    requires q_few { length (variables q.now) < 1000000000 }
-    ensures { IfOk result (λ o. AnswersSorted ctx.now.sig.now ctx.now.ins.now (para_rule j side i path.now) p.now q.now o) }
+    ensures is { IfOk result (λ o. o ≡ paramodulated ctx.now.sig.now ctx.now.ins.now p.now j side q.now i path.now) }
+    ensures inference { IsNumbered p.now → IsNumbered q.now → IsTrue (is_sorted_clause ctx.now.sig.now ctx.now.ins.now p.now) → IsTrue (is_sorted_clause ctx.now.sig.now ctx.now.ins.now q.now) → IfOk result (λ o. AnswersSorted ctx.now.sig.now ctx.now.ins.now (para_rule j side i path.now) p.now q.now o) }
 {
     let is_suited = suits_para(p, j, side, q, i, path);
     if !is_suited {
@@ -53,8 +50,8 @@ pub fn paramodulate(
     Ok(if_sorted(ctx, found))
 }
 
-// A row whose clause isn't well sorted is none.
-fn if_sorted(ctx: &Ctx, found: Option<Made>) -> Option<Made>
+/// A row whose clause isn't well sorted is none.
+pub fn if_sorted(ctx: &Ctx, found: Option<Made>) -> Option<Made>
     ensures { result ≡ sorted_only ctx.now.sig.now ctx.now.ins.now found }
 {
     match found {
@@ -69,7 +66,6 @@ fn if_sorted(ctx: &Ctx, found: Option<Made>) -> Option<Made>
 }
 
 // What the definition by unification gives.
-#[tactic(auto, using(crate::proofs::Resolved::resolving))]
 fn paramodulation(
     alloc: Global,
     ctx: &Ctx,
@@ -80,25 +76,35 @@ fn paramodulation(
     i: u32,
     path: &[u32],
 ) -> Result<Option<Made>, NoMemory>
-    requires p_numbered { IsNumbered p.now }
-    requires q_numbered { IsNumbered q.now }
-    requires p_sorted { IsTrue (is_sorted_clause ctx.now.sig.now ctx.now.ins.now p.now) }
-    requires q_sorted { IsTrue (is_sorted_clause ctx.now.sig.now ctx.now.ins.now q.now) }
-    requires p_few { length (variables p.now) < 1000000000 }
-    requires q_few { length (variables q.now) < 1000000000 }
     ensures { IfOk result (λ o. o ≡ is_paramodulation ctx.now.sig.now ctx.now.ins.now p.now j side q.now i path.now) }
 {
-    let p_variables = clause_variables(alloc, p)?;
-    let q_variables = clause_variables(alloc, q)?;
-    let k = p_variables.len() as u32;
+    let variables = clause_variables(alloc, p)?;
+    let k = numbered(variables.len())?;
     match solution(alloc, ctx, p, j, side, q, i, path, k)? {
-        Some(found) => {
-            let left = images_of(alloc, found.0.as_slice(), 0, p_variables.as_slice())?;
-            let right = images_of(alloc, found.0.as_slice(), k, q_variables.as_slice())?;
-            Ok(Some(made_of(alloc, p, j, side, q, i, path, left, right)?))
-        }
+        Some(found) => Ok(Some(replaced_by(alloc, p, j, side, q, i, path, k, &found)?)),
         None => Ok(None),
     }
+}
+
+// The row that is made of these bindings.
+fn replaced_by(
+    alloc: Global,
+    p: &Clause,
+    j: u32,
+    side: Side,
+    q: &Clause,
+    i: u32,
+    path: &[u32],
+    k: u32,
+    found: &Subst,
+) -> Result<Made, NoMemory>
+    ensures { IfOk result (λ m. m ≡ is_made_of (paramodulant p.now j side q.now i path.now) (images found.now.0 0 (variables p.now)) (images found.now.0 k (variables q.now))) }
+{
+    let p_variables = clause_variables(alloc, p)?;
+    let left = images_of(alloc, found.0.as_slice(), 0, p_variables.as_slice())?;
+    let q_variables = clause_variables(alloc, q)?;
+    let right = images_of(alloc, found.0.as_slice(), k, q_variables.as_slice())?;
+    made_of(alloc, p, j, side, q, i, path, left, right)
 }
 
 // The bindings by which the named parts become one, the second clause's variables behind those of the first.
@@ -114,9 +120,6 @@ fn solution(
     path: &[u32],
     k: u32,
 ) -> Result<Option<Subst>, NoMemory>
-    requires q_numbered { IsNumbered q.now }
-    requires few { k < 1000000000 }
-    requires q_few { length (variables q.now) < 1000000000 }
     ensures { IfOk result (λ o. bindings_of o ≡ solved_apart ctx.now.sig.now ctx.now.ins.now k (para_pairs p.now j side q.now i path.now)) }
 {
     match terms_apart(alloc, p, j, side, q, i, path, k)? {
@@ -133,7 +136,6 @@ fn solution(
 }
 
 // The pair of the side and the part.
-#[tactic(auto, using(crate::proofs::Resolved::parting))]
 fn terms_apart(
     alloc: Global,
     p: &Clause,
@@ -144,9 +146,6 @@ fn terms_apart(
     path: &[u32],
     k: u32,
 ) -> Result<Option<Items<(Term, Term)>>, NoMemory>
-    requires q_numbered { IsNumbered q.now }
-    requires few { k < 1000000000 }
-    requires q_few { length (variables q.now) < 1000000000 }
     ensures { IfOk result (λ o. o ≡ option_map (apart k) (term_pairs (is_side_at p.now j side) (is_part_at q.now i path.now))) }
 {
     match side_at(p, j, side) {
@@ -164,7 +163,6 @@ fn one_apart(
     second: &Term,
     k: u32,
 ) -> Result<Items<(Term, Term)>, NoMemory>
-    requires fits { span second.now + k < 4000000000 }
     ensures { IfOk result (λ ps. ps ≡ apart k ((first.now, second.now) ∷ [])) }
 {
     let mut made = Items::new(alloc);
@@ -174,7 +172,8 @@ fn one_apart(
     Ok(made)
 }
 
-fn side_at(p: &Clause, j: u32, side: Side) -> Option<&Term>
+/// That side of equation j.
+pub fn side_at(p: &Clause, j: u32, side: Side) -> Option<&Term>
     ensures { option_copied result ≡ is_side_at p.now j side }
 {
     match literal_at(p.literals.as_slice(), j) {
@@ -192,7 +191,8 @@ fn other_at(p: &Clause, j: u32, side: Side) -> Option<&Term>
     }
 }
 
-fn part_at<'a>(q: &'a Clause, i: u32, path: &[u32]) -> Option<&'a Term>
+/// The part of literal i at a path.
+pub fn part_at<'a>(q: &'a Clause, i: u32, path: &[u32]) -> Option<&'a Term>
     ensures { option_copied result ≡ is_part_at q.now i path.now }
 {
     match literal_at(q.literals.as_slice(), i) {
@@ -217,8 +217,8 @@ fn new_part(
     }
 }
 
-// The row that is made of two lists of bindings.
-fn made_of(
+/// The row that is made of two lists of bindings.
+pub fn made_of(
     alloc: Global,
     p: &Clause,
     j: u32,
@@ -229,7 +229,6 @@ fn made_of(
     left: Items<Term>,
     right: Items<Term>,
 ) -> Result<Made, NoMemory>
-    requires few { length (variables_of (row (paramodulant p.now j side q.now i path.now left right) (left ∷ right ∷ []))) < 4000000000 }
     ensures { IfOk result (λ m. m ≡ is_made_of (paramodulant p.now j side q.now i path.now) left right) }
 {
     let literals = replaced(

@@ -1,4 +1,4 @@
-ghost use Rattle.std.specs.Prelude.{◌≡◌, ◌<◌, ◌∷◌, [], ℕ, Some, IfOk, IsTrue, length};
+ghost use Rattle.std.specs.Prelude.{◌≡◌, ◌∷◌, [], Some, IfOk, IsTrue};
 ghost use Rattle.am_clause.specs.Numbered.{IsNumbered};
 ghost use Rattle.am_clause.specs.Variables.{variables};
 ghost use Rattle.am_unify.specs.Unifier.{bindings_of};
@@ -6,14 +6,15 @@ ghost use Rattle.am_rules.specs.Asked.{asked};
 ghost use Rattle.am_rules.specs.Inference.{AnswersTwo};
 ghost use Rattle.am_rules.specs.Parts.{answer_under};
 ghost use Rattle.am_rules.specs.Resolution.{atom_at, resolvent};
-ghost use Rattle.am_rules.specs.Row.{row, variables_of};
-ghost use Rattle.am_rules.specs.Solving.{solved_apart, made_of as is_made_of, resolution as is_resolution};
+ghost use Rattle.am_rules.specs.Conclusions.{resolved};
+ghost use Rattle.am_rules.specs.Solving.{images, solved_apart, made_of as is_made_of, resolution as is_resolution};
 ghost use Rattle.am_clause.specs.SortedClause.{is_sorted_clause};
 ghost use Rattle.am_clause.specs.Rules.{shared, resolve as resolve_rule};
 
 use crate::asking::{asked_apart, images_of};
 use crate::instancing::{instance_of_answer, instances_without, literal_at};
 use crate::kinds::suits_resolve;
+use crate::numbers::numbered;
 use crate::rows::renumber_made;
 use am_clause::{Clause, Made, clause_variables, merge};
 use am_term::{Ctx, NoMemory, Term};
@@ -23,7 +24,8 @@ use std::alloc::Global;
 
 /// The two clauses, of which the first has no variable of the second, resolved by atom i of the first and atom j of
 /// the second, places from 1: the row made by most general bindings that make the two atoms one, and the answers if both
-/// have one. None exactly where no well-sorted bindings do.
+/// have one. None exactly where the atoms aren't there as relations of opposite signs, or no well-sorted bindings do.
+#[tactic(auto, using(crate::proofs::Concluded::concluding))]
 pub fn resolve(
     alloc: Global,
     ctx: &Ctx,
@@ -32,13 +34,8 @@ pub fn resolve(
     q: &Clause,
     j: u32,
 ) -> Result<Option<Made>, NoMemory>
-    requires p_numbered { IsNumbered p.now }
-    requires q_numbered { IsNumbered q.now }
-    requires p_sorted { IsTrue (is_sorted_clause ctx.now.sig.now ctx.now.ins.now p.now) }
-    requires q_sorted { IsTrue (is_sorted_clause ctx.now.sig.now ctx.now.ins.now q.now) }
-    requires p_few { length (variables p.now) < 1000000000 }
-    requires q_few { length (variables q.now) < 1000000000 }
-    ensures { IfOk result (λ o. AnswersTwo ctx.now.sig.now ctx.now.ins.now (resolve_rule i j) p.now q.now o) }
+    ensures is { IfOk result (λ o. o ≡ resolved ctx.now.sig.now ctx.now.ins.now p.now i q.now j) }
+    ensures inference { IsNumbered p.now → IsNumbered q.now → IsTrue (is_sorted_clause ctx.now.sig.now ctx.now.ins.now p.now) → IsTrue (is_sorted_clause ctx.now.sig.now ctx.now.ins.now q.now) → IfOk result (λ o. AnswersTwo ctx.now.sig.now ctx.now.ins.now (resolve_rule i j) p.now q.now o) }
 {
     let is_suited = suits_resolve(p, i, q, j);
     if !is_suited {
@@ -48,7 +45,6 @@ pub fn resolve(
 }
 
 // What the definition by unification gives.
-#[tactic(auto, using(crate::proofs::Resolved::resolving))]
 fn resolution(
     alloc: Global,
     ctx: &Ctx,
@@ -57,25 +53,33 @@ fn resolution(
     q: &Clause,
     j: u32,
 ) -> Result<Option<Made>, NoMemory>
-    requires p_numbered { IsNumbered p.now }
-    requires q_numbered { IsNumbered q.now }
-    requires p_sorted { IsTrue (is_sorted_clause ctx.now.sig.now ctx.now.ins.now p.now) }
-    requires q_sorted { IsTrue (is_sorted_clause ctx.now.sig.now ctx.now.ins.now q.now) }
-    requires p_few { length (variables p.now) < 1000000000 }
-    requires q_few { length (variables q.now) < 1000000000 }
     ensures { IfOk result (λ o. o ≡ is_resolution ctx.now.sig.now ctx.now.ins.now p.now i q.now j) }
 {
-    let p_variables = clause_variables(alloc, p)?;
-    let q_variables = clause_variables(alloc, q)?;
-    let k = p_variables.len() as u32;
+    let variables = clause_variables(alloc, p)?;
+    let k = numbered(variables.len())?;
     match solution(alloc, ctx, p, i, q, j, k)? {
-        Some(found) => {
-            let left = images_of(alloc, found.0.as_slice(), 0, p_variables.as_slice())?;
-            let right = images_of(alloc, found.0.as_slice(), k, q_variables.as_slice())?;
-            Ok(Some(made_of(alloc, p, i, q, j, left, right)?))
-        }
+        Some(found) => Ok(Some(resolved_by(alloc, p, i, q, j, k, &found)?)),
         None => Ok(None),
     }
+}
+
+// The row that is made of these bindings.
+fn resolved_by(
+    alloc: Global,
+    p: &Clause,
+    i: u32,
+    q: &Clause,
+    j: u32,
+    k: u32,
+    found: &Subst,
+) -> Result<Made, NoMemory>
+    ensures { IfOk result (λ m. m ≡ is_made_of (resolvent p.now i q.now j) (images found.now.0 0 (variables p.now)) (images found.now.0 k (variables q.now))) }
+{
+    let p_variables = clause_variables(alloc, p)?;
+    let left = images_of(alloc, found.0.as_slice(), 0, p_variables.as_slice())?;
+    let q_variables = clause_variables(alloc, q)?;
+    let right = images_of(alloc, found.0.as_slice(), k, q_variables.as_slice())?;
+    made_of(alloc, p, i, q, j, left, right)
 }
 
 // The bindings by which the named parts become one, the second clause's variables behind those of the first.
@@ -89,9 +93,6 @@ fn solution(
     j: u32,
     k: u32,
 ) -> Result<Option<Subst>, NoMemory>
-    requires q_numbered { IsNumbered q.now }
-    requires few { k < 1000000000 }
-    requires q_few { length (variables q.now) < 1000000000 }
     ensures { IfOk result (λ o. bindings_of o ≡ solved_apart ctx.now.sig.now ctx.now.ins.now k (asked (atom_at i p.now) (atom_at j q.now) p.now.answer q.now.answer)) }
 {
     match literal_at(p.literals.as_slice(), i) {
@@ -134,7 +135,6 @@ fn made_of(
     left: Items<Term>,
     right: Items<Term>,
 ) -> Result<Made, NoMemory>
-    requires few { length (variables_of (row (resolvent p.now i q.now j left right) (left ∷ right ∷ []))) < 4000000000 }
     ensures { IfOk result (λ m. m ≡ is_made_of (resolvent p.now i q.now j) left right) }
 {
     let mut literals = instances_without(alloc, p.literals.as_slice(), i, left.as_slice())?;

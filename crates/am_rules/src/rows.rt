@@ -1,4 +1,4 @@
-ghost use Rattle.std.specs.Prelude.{◌≡◌, ◌<◌, ◌∷◌, [], length, map, IfOk, OnOk};
+ghost use Rattle.std.specs.Prelude.{◌≡◌, ◌∷◌, [], map, IfOk, OnOk};
 ghost use Rattle.am_clause.specs.declared.row.Made.{Made as IsRow};
 ghost use Rattle.am_clause.specs.Distinct.{with_new};
 ghost use Rattle.am_clause.specs.Variables.{same_variable, occurrences, occurrences_all};
@@ -6,6 +6,7 @@ ghost use Rattle.am_clause.specs.Renaming.{places_in, renamed, renamed_all, rena
 ghost use Rattle.am_rules.specs.Row.{in_lists, variables_of, renamed_lists};
 ghost use Rattle.am_clause.specs.NumberedMade.{numbered_made};
 
+use crate::numbers::numbered;
 use am_clause::{Clause, Made, clause_variables};
 use am_term::{Atom, Literal, NoMemory, SortId, Term};
 use sqlite_items::Items;
@@ -14,7 +15,6 @@ use std::alloc::Global;
 /// The row with its variables numbered from 0 by first occurrence: the literals first, then the answer, then the lists.
 #[tactic(auto, using(crate::proofs::Walks::renumbering))]
 pub fn renumber_made(alloc: Global, row: &Made) -> Result<Made, NoMemory>
-    requires few { length (variables_of row.now) < 4000000000 }
     ensures { IfOk result (λ m. m ≡ numbered_made row.now) }
 {
     let seen = row_variables(alloc, row)?;
@@ -53,7 +53,6 @@ fn rename_lists(
     lists: &[Items<Term>],
     seen: &[(u32, SortId)],
 ) -> Result<Items<Items<Term>>, NoMemory>
-    requires few { length seen.now < 4000000000 }
     ensures { IfOk result (λ ws. ws ≡ renamed_lists (places_in seen.now) lists.now) }
 {
     let mut made = Items::new(alloc);
@@ -66,12 +65,11 @@ fn rename_lists(
 #[cycle(renaming)]
 #[tactic(auto, using(crate::proofs::Walks::renaming))]
 fn rename(alloc: Global, term: &Term, seen: &[(u32, SortId)]) -> Result<Term, NoMemory>
-    requires few { length seen.now < 4000000000 }
     ensures { IfOk result (λ t. t ≡ renamed (places_in seen.now) term.now) }
 {
     match term {
         Term::Var { n, sort } => Ok(Term::Var {
-            n: place(seen, *n, *sort) as u32,
+            n: numbered(place(seen, *n, *sort))?,
             sort: *sort,
         }),
         Term::In { k } => Ok(Term::In { k: *k }),
@@ -89,7 +87,6 @@ fn rename_all(
     terms: &[Term],
     seen: &[(u32, SortId)],
 ) -> Result<Items<Term>, NoMemory>
-    requires few { length seen.now < 4000000000 }
     ensures { IfOk result (λ ts. ts ≡ renamed_all (places_in seen.now) terms.now) }
 {
     let mut made = Items::new(alloc);
@@ -101,7 +98,6 @@ fn rename_all(
 
 #[tactic(auto, using(crate::proofs::Walks::renaming))]
 fn rename_atom(alloc: Global, atom: &Atom, seen: &[(u32, SortId)]) -> Result<Atom, NoMemory>
-    requires few { length seen.now < 4000000000 }
     ensures { IfOk result (λ a. a ≡ renamed_atom (places_in seen.now) atom.now) }
 {
     match atom {
@@ -123,7 +119,6 @@ fn rename_literals(
     literals: &[Literal],
     seen: &[(u32, SortId)],
 ) -> Result<Items<Literal>, NoMemory>
-    requires few { length seen.now < 4000000000 }
     ensures { IfOk result (λ ls. ls ≡ map (renamed_literal (places_in seen.now)) literals.now) }
 {
     let mut made = Items::new(alloc);
@@ -143,7 +138,6 @@ fn rename_answer(
     answer: &Option<Items<Term>>,
     seen: &[(u32, SortId)],
 ) -> Result<Option<Items<Term>>, NoMemory>
-    requires few { length seen.now < 4000000000 }
     ensures { IfOk result (λ o. o ≡ renamed_answer (places_in seen.now) answer.now) }
 {
     match answer {

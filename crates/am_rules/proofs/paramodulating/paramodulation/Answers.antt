@@ -1,22 +1,8 @@
-use Rattle.am_rules.proofs.Resolved.{made-few, made-is}
 use Rattle.am_rules.specs.Paramodulation.{paramodulant, para_pairs}
-use Rattle.am_rules.proofs.Paramodulations.{paramodulation-few}
+use Rattle.am_rules.proofs.Resolved.{made-is}
 use Rattle.am_rules.proofs.paramodulating.paramodulation.Goals as goal
-
-pub made_of-requires : goal.made_of-requires
-made_of-requires c = record {
-  few = made-few c.args.ctx.now.sig.now c.args.ctx.now.ins.now c.args.p.now c.args.q.now (paramodulant c.args.p.now c.args.j c.args.side c.args.q.now c.args.i c.args.path.now) (para_pairs c.args.p.now c.args.j c.args.side c.args.q.now c.args.i c.args.path.now)
-      c.len-k.result c.in_ok-found.field-0 c.in-Some.found c.in_ok-p_variables.p_variables c.as_slice-in-Some.result.now c.in_ok-q_variables.q_variables c.as_slice-in-Some-3.result.now
-      c.as_slice.result.now c.as_slice-in-Some-2.result.now c.in_ok-left-in-Some.left c.in_ok-right-in-Some.right
-      c.in_ok-p_variables.ensures c.in_ok-q_variables.ensures c.len-k.ensures c.in_ok-found.ensures c.in-Some.is
-      c.as_slice.ensures c.as_slice-in-Some-2.ensures c.as_slice-in-Some.ensures c.as_slice-in-Some-3.ensures c.in_ok-left-in-Some.ensures c.in_ok-right-in-Some.ensures
-      (paramodulation-few c.args.ctx.now.sig.now c.args.ctx.now.ins.now c.args.p.now c.args.j c.args.side c.args.q.now c.args.i c.args.path.now c.requires.p_numbered c.requires.q_numbered c.requires.p_sorted c.requires.q_sorted) c.requires.p_few c.requires.q_few;
-}
 
 pub returns-in-Some : goal.returns-in-Some
 returns-in-Some c = made-is c.args.ctx.now.sig.now c.args.ctx.now.ins.now c.args.p.now c.args.q.now (paramodulant c.args.p.now c.args.j c.args.side c.args.q.now c.args.i c.args.path.now) (para_pairs c.args.p.now c.args.j c.args.side c.args.q.now c.args.i c.args.path.now)
-    c.len-k.result c.in_ok-found.field-0 c.in-Some.found c.in_ok-p_variables.p_variables c.as_slice-in-Some.result.now c.in_ok-q_variables.q_variables c.as_slice-in-Some-3.result.now
-    c.as_slice.result.now c.as_slice-in-Some-2.result.now c.in_ok-left-in-Some.left c.in_ok-right-in-Some.right
-    c.in_ok-p_variables.ensures c.in_ok-q_variables.ensures c.len-k.ensures c.in_ok-found.ensures c.in-Some.is
-    c.as_slice.ensures c.as_slice-in-Some-2.ensures c.as_slice-in-Some.ensures c.as_slice-in-Some-3.ensures c.in_ok-left-in-Some.ensures c.in_ok-right-in-Some.ensures
-    c.in_ok-made_of-in-Some.field-0 c.in_ok-made_of-in-Some.ensures
+    c.in_ok-k.k c.len.result c.in_ok-variables.variables c.in_ok-found.field-0 c.in-Some.found c.in_ok-replaced_by-in-Some.field-0
+    c.in_ok-k.ensures c.len.ensures c.in_ok-variables.ensures c.in_ok-found.ensures c.in-Some.is c.in_ok-replaced_by-in-Some.ensures

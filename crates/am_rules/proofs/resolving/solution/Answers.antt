@@ -1,8 +1,0 @@
-use Rattle.std.proofs.Common.{arith}
-use Rattle.am_rules.proofs.Resolved.{literal-span}
-use Rattle.am_rules.proofs.resolving.solution.Goals as goal
-
-pub asked_apart-requires-clause-atom : goal.asked_apart-requires-clause-atom
-asked_apart-requires-clause-atom c =
-    let s = literal-span c.args.q.now c.requires.q_numbered c.as_slice-in-Some.result.now c.as_slice-in-Some.ensures c.args.j c.in-Some-literal_at.second.now c.in-Some-literal_at.ensures in
-    omega (arith, c.requires.few, c.requires.q_few)
