@@ -81,8 +81,20 @@ pub fn push_formula(out: &mut String, formula: &Formula) -> Done {
         }
         Formula::And(parts) => push_parts(out, "and", parts.as_slice()),
         Formula::Or(parts) => push_parts(out, "or", parts.as_slice()),
-        Formula::Implies(left, right) => push_pair(out, "=>", left.get(), right.get()),
-        Formula::Iff(left, right) => push_pair(out, "<=>", left.get(), right.get()),
+        Formula::Implies(left, right) => {
+            out.push_str("(=> ")?;
+            push_formula(out, left.get())?;
+            out.push(' ')?;
+            push_formula(out, right.get())?;
+            Ok(out.push(')')?)
+        }
+        Formula::Iff(left, right) => {
+            out.push_str("(<=> ")?;
+            push_formula(out, left.get())?;
+            out.push(' ')?;
+            push_formula(out, right.get())?;
+            Ok(out.push(')')?)
+        }
     }
 }
 
@@ -93,14 +105,5 @@ fn push_parts(out: &mut String, head: &str, parts: &[Formula]) -> Done {
         out.push(' ')?;
         push_formula(out, part)?;
     }
-    Ok(out.push(')')?)
-}
-
-#[cycle(formulas)]
-fn push_pair(out: &mut String, head: &str, left: &Formula, right: &Formula) -> Done {
-    write!(out, "({head} ")?;
-    push_formula(out, left)?;
-    out.push(' ')?;
-    push_formula(out, right)?;
     Ok(out.push(')')?)
 }

@@ -1,0 +1,4 @@
+pub mod Accepted
+pub mod FirstFault
+pub mod Laws
+pub mod Phases

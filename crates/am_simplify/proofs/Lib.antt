@@ -1,0 +1,10 @@
+pub mod Abstracts
+pub mod Claims
+pub mod Inserted
+pub mod Lesser
+pub mod Listed
+pub mod Neighbours
+pub mod Ordering
+pub mod Runs
+pub mod Stepping
+pub mod Subsumed

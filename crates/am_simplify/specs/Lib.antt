@@ -1,0 +1,9 @@
+pub mod Frames
+pub mod NormalStep
+pub mod Numbering
+pub mod Places
+pub mod Reasons
+pub mod Steps
+pub mod Subsuming
+pub mod Subsumption
+pub mod Units
