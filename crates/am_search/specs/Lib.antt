@@ -1,0 +1,17 @@
+pub mod Sources
+pub mod Marks
+pub mod Members
+pub mod Weights
+pub mod Processing
+pub mod Candidates
+pub mod Turn
+pub mod Left
+pub mod Rules
+pub mod Plain
+pub mod Outcomes
+pub mod Stating
+pub mod Laws
+pub mod Starting
+pub mod Searching
+pub mod Replay
+pub mod Searched

@@ -1,0 +1,124 @@
+//! Searches: each part of standard input is a theory, a diagram or a case, each line of standard output the answer to a
+//! case, worked out by hand.
+//!
+//! A line that begins with `|` goes on with the part before it, and is a line of its text; src/notation.rt says what
+//! stands for what is hard to see. Any other line begins a part: `theory` and `diagram` are read for the cases behind
+//! them; `search BUDGET WEIGHT CHOOSER` searches with these limits and a chooser: `weight`, `age` or `mixed`. Its answer
+//! has the end, the number of inferences, the rows that were chosen, the fate of each inferred row, and the number of
+//! rows of the log. A line that begins with `#` is printed as it is.
+#![tactic(auto)]
+
+mod answers;
+mod notation;
+mod spelling;
+
+use am_agenda::{ByAge, ByWeight, Chooser, Mixed};
+use am_search::Limits;
+use am_term::NoMemory;
+use answers::search_answer;
+use notation::push_line;
+use std::alloc::Global;
+use std::io::{self, BufRead, BufReader};
+
+/// The texts of the theory and the diagram that stand.
+#[derive(Drop)]
+struct Files {
+    theory: Vec<u8>,
+    diagram: Vec<u8>,
+}
+
+// The limits and the word for the chooser of a case, if the line is one.
+fn case_of(part: &str) -> Option<(Limits, &str)> {
+    let behind = part.strip_prefix("search ")?;
+    let (budget, behind) = behind.split_once(' ')?;
+    let (weight, chooser) = behind.split_once(' ')?;
+    let Ok(budget) = budget.parse::<u32>() else {
+        return None;
+    };
+    let Ok(weight) = weight.parse::<u32>() else {
+        return None;
+    };
+    Some((Limits { budget, weight }, chooser))
+}
+
+// Prints the answer of a search.
+fn print_search(
+    rt: &impl Print,
+    alloc: Global,
+    files: &Files,
+    limits: Limits,
+    word: &str,
+) -> io::Result<()> {
+    let theory = files.theory.as_slice();
+    let diagram = files.diagram.as_slice();
+    let answer = match word {
+        "age" => {
+            let chooser: Box<dyn Chooser> = Box::new(alloc, ByAge::new())?;
+            search_answer(alloc, theory, diagram, limits, chooser)
+        }
+        "mixed" => {
+            let chooser: Box<dyn Chooser> = Box::new(alloc, Mixed::new())?;
+            search_answer(alloc, theory, diagram, limits, chooser)
+        }
+        _ => {
+            let chooser: Box<dyn Chooser> = Box::new(alloc, ByWeight::new())?;
+            search_answer(alloc, theory, diagram, limits, chooser)
+        }
+    };
+    match answer {
+        Ok(answer) => println!(rt; "{answer}"),
+        Err(NoMemory) => println!(rt; "no memory"),
+    }
+}
+
+// Takes a part of the input in, and prints its answer if it is a case.
+fn finish(
+    rt: &impl Print,
+    alloc: Global,
+    files: &mut Files,
+    part: &str,
+    text: &[u8],
+) -> io::Result<()> {
+    match part {
+        "theory" => {
+            files.theory.clear();
+            files.theory.extend_from_slice(text)?;
+            Ok(())
+        }
+        "diagram" => {
+            files.diagram.clear();
+            files.diagram.extend_from_slice(text)?;
+            Ok(())
+        }
+        _ => match case_of(part) {
+            Some((limits, word)) => print_search(rt, alloc, files, limits, word),
+            None => Ok(()),
+        },
+    }
+}
+
+fn main(rt: HostRuntime) -> io::Result<()> {
+    let alloc = rt.alloc();
+    let mut files = Files {
+        theory: Vec::new(alloc),
+        diagram: Vec::new(alloc),
+    };
+    let mut part = String::new(alloc);
+    let mut text = Vec::new(alloc);
+    for line in BufReader::new(alloc, rt.reader())?.lines(alloc) {
+        let line = line?;
+        if let Some(more) = line.strip_prefix('|') {
+            if push_line(&mut text, more).is_err() {
+                return println!(rt; "no memory");
+            }
+            continue;
+        }
+        finish(&rt, alloc, &mut files, part.as_str(), text.as_slice())?;
+        text.clear();
+        if line.starts_with('#') {
+            println!(rt; "{line}")?;
+        }
+        part = line;
+    }
+    finish(&rt, alloc, &mut files, part.as_str(), text.as_slice())
+}
