@@ -15,19 +15,20 @@ use Rattle.am_diagram.specs.declared.fault.DiagramFault.{DiagramFault}
 use Rattle.am_diagram.specs.Reading.{diagram, no_memory as no_diagram_memory}
 use Rattle.am_top.specs.declared.answer.Answer.{Answer}
 use Rattle.am_top.specs.declared.answer.Answer.TheVariants.{Text, Usage, Refused, Unread, NoMemory}
-use Rattle.am_top.specs.declared.answer.File.TheVariants.{Theory, Diagram}
+use Rattle.am_top.specs.declared.answer.File.TheVariants.{Theory, Diagram, Text as TextFile}
 use Rattle.am_top.specs.declared.answer.Refusal.{Refusal}
 use Rattle.am_top.specs.declared.answer.Refusal.TheVariants as refusal
 use Rattle.am_top.specs.Answers.{Where, Refuses, AreBytes, NotLoaded, IsAnswerOf}
 use Rattle.am_top.specs.declared.words.Command.{Command}
-use Rattle.am_top.specs.Commands.{IsTheory, HasTheoryFault, IsDiagram, HasDiagramFault, HasAxiom, TheoryOf, DiagramOf, Makes, Shows, Does, HasAnswer, IsUnitText}
+use Rattle.am_top.specs.Commands.{IsTheory, HasTheoryFault, IsDiagram, HasDiagramFault, HasAxiom, TheoryOf, DiagramOf, FilesOf, TextOf, Makes, Checks, Shows, Does, HasAnswer, IsUnitText}
 use Rattle.am_top.specs.Messages.{theory_message, diagram_message, not_built}
 use Rattle.am_fortran.specs.declared.unit.Unit.{Unit as Subroutine}
 use Rattle.am_fortran.specs.Text.{unit_text}
 use Rattle.am_plan.specs.Plan.{IsPlan}
 use Rattle.am_top.specs.Direct.{IsDirect}
 use Rattle.am_top.specs.DirectTests.{IsDirectBy}
-use Rattle.am_top.specs.Steps.{FoundTheory, FoundDiagram, NoTheory, NoDiagram, FromDiagram, TheText, TellsTheoryFault, TellsDiagramFault}
+use Rattle.am_log.specs.Text.{byte_limit as text_limit}
+use Rattle.am_top.specs.Steps.{FoundTheory, FoundDiagram, FoundFiles, NoTheory, NoDiagram, NoFiles, FromDiagram, FromText, TheText, TellsTheoryFault, TellsDiagramFault}
 use Rattle.am_top.proofs.Premises.{theories_well_formed, diagrams_well_formed}
 
 -- ---- one file
@@ -125,6 +126,83 @@ module _ (told : List ℕ → Option (List ℕ)) (sure : List ℕ → Type 0) (f
     pub make_answer : (d : DiagramValue) (then_told : Option (List ℕ)) (answer : Answer) → then_told ≡ told second → FoundDiagram t then_told d → IsAnswerOf (FromDiagram t d) answer → IsAnswerOf (Makes told sure first second) answer
     make_answer d then_told answer same there (inl none) = inl none
     make_answer d then_told answer same there (inr is) = inr (make_from_diagram d then_told answer same there is)
+
+-- ---- two files, and a third
+
+-- what needs no file behind a theory and a diagram
+abbrev NoMore : TheoryValue → DiagramValue → Answer → Type 0
+NoMore t d answer = ⊥
+
+module _ (told : List ℕ → Option (List ℕ)) (sure : List ℕ → Type 0) (first second : List ℕ) where
+  pub files_no_theory : (answer : Answer) → NoTheory (told first) (sure first) answer → NoFiles told sure first second answer
+  files_no_theory answer not = no_theory (told first) (sure first) (λ t. DiagramOf t (told second) (sure second) (NoMore t)) answer not
+
+  module _ (t : TheoryValue) (found : FoundTheory (told first) t) where
+    files_later : (answer : Answer) → IsAnswerOf (DiagramOf t (told second) (sure second) (NoMore t)) answer → NoFiles told sure first second answer
+    files_later answer (inl none) = inl none
+    files_later answer (inr is) = inr (with_theory (told first) (sure first) (λ u. DiagramOf u (told second) (sure second) (NoMore u)) t answer found is)
+
+    pub files_no_diagram : (later : Type 0) (then_told : Option (List ℕ)) (answer : Answer) → (sure second → later) → then_told ≡ told second → NoDiagram t then_told later answer → NoFiles told sure first second answer
+    files_no_diagram later then_told answer stays same not =
+        files_later answer (no_diagram t (told second) (sure second) later (NoMore t) stays answer (subst (λ (o : Option (List ℕ)). NoDiagram t o later answer) same not))
+
+    pub files_found : (d : DiagramValue) (then_told : Option (List ℕ)) → then_told ≡ told second → FoundDiagram t then_told d → FoundFiles told first second t d
+    files_found d then_told same there = record { in_theory = found; in_diagram = subst (λ (o : Option (List ℕ)). FoundDiagram t o d) same there }
+
+  module _ (next : TheoryValue → DiagramValue → Answer → Type 0) where
+    files_refused : (answer : Answer) → FilesOf told sure first second NoMore answer → FilesOf told sure first second next answer
+    files_refused answer (inl not) = inl not
+    files_refused answer (inr (bytes, loaded, inl fault)) = inr (bytes, loaded, inl fault)
+    files_refused answer (inr (bytes, loaded, inr (t, is, behind))) = inr (bytes, loaded, inr (t, is, diagram_refused t (told second) (sure second) (sure second) (next t) (λ s. s) answer behind))
+
+    -- where a file wasn't found, the command has its answer
+    pub no_files : (answer : Answer) → NoFiles told sure first second answer → IsAnswerOf (FilesOf told sure first second next) answer
+    no_files answer (inl none) = inl none
+    no_files answer (inr not) = inr (files_refused answer not)
+
+    module _ (t : TheoryValue) (d : DiagramValue) (found : FoundFiles told first second t d) where
+      -- the answer of what comes behind the files
+      pub with_files : (answer : Answer) → next t d answer → FilesOf told sure first second next answer
+      with_files answer after = with_theory (told first) (sure first) (λ u. DiagramOf u (told second) (sure second) (next u)) t answer found.in_theory
+          (with_diagram t (told second) (sure second) (sure second) (next t) d answer found.in_diagram after)
+
+      pub behind_files : (answer : Answer) → IsAnswerOf (next t d) answer → IsAnswerOf (FilesOf told sure first second next) answer
+      behind_files answer (inl none) = inl none
+      behind_files answer (inr is) = inr (with_files answer is)
+
+module _ (told : List ℕ → Option (List ℕ)) (sure : List ℕ → Type 0) (first second third : List ℕ) where
+  -- what `check` asks behind the two files
+  abbrev pub BehindFiles : TheoryValue → DiagramValue → Answer → Type 0
+  BehindFiles t d = TextOf (told third) (sure third) (FromText t d)
+
+  pub check_no_files : (answer : Answer) → NoFiles told sure first second answer → IsAnswerOf (Checks told sure first second third) answer
+  check_no_files answer not = no_files told sure first second BehindFiles answer not
+
+  module _ (t : TheoryValue) (d : DiagramValue) (found : FoundFiles told first second t d) where
+    text_refused : (later : Type 0) (answer : Answer) → (sure third → later) → NotLoaded TextFile text_limit (told third) later answer → BehindFiles t d answer
+    text_refused later answer stays (inl unread) = inl (inl (unread.0, λ s. unread.1 (stays s)))
+    text_refused later answer stays (inr long) = inl (inr long)
+
+    text_lost : (later : Type 0) (answer : Answer) → (sure third → later) → IsAnswerOf (NotLoaded TextFile text_limit (told third) later) answer → IsAnswerOf (BehindFiles t d) answer
+    text_lost later answer stays (inl none) = inl none
+    text_lost later answer stays (inr not) = inr (text_refused later answer stays not)
+
+    pub check_not_loaded : (later : Type 0) (then_told : Option (List ℕ)) (answer : Answer) → (sure third → later) → then_told ≡ told third → IsAnswerOf (NotLoaded TextFile text_limit then_told later) answer
+        → IsAnswerOf (Checks told sure first second third) answer
+    check_not_loaded later then_told answer stays same not =
+        behind_files told sure first second BehindFiles t d found answer
+        (text_lost later answer stays (subst (λ (o : Option (List ℕ)). IsAnswerOf (NotLoaded TextFile text_limit o later) answer) same not))
+
+    module _ (x read : List ℕ) (then_told : Option (List ℕ)) (same : then_told ≡ told third) (loaded : AreBytes text_limit then_told x) (one : read ≡ x) where
+      these_bytes : AreBytes text_limit (told third) read
+      these_bytes = subst (AreBytes text_limit (told third)) (sym one) (subst (λ (o : Option (List ℕ)). AreBytes text_limit o x) same loaded)
+
+      pub check_printed : (answer : Answer) → FromText t d read answer → Checks told sure first second third answer
+      check_printed answer is = with_files told sure first second BehindFiles t d found answer (inr (read, these_bytes, is))
+
+      pub check_behind : (answer : Answer) → IsAnswerOf (FromText t d read) answer → IsAnswerOf (Checks told sure first second third) answer
+      check_behind answer (inl none) = inl none
+      check_behind answer (inr is) = inr (check_printed answer is)
 
 -- the text of the unit of a direct diagram
 pub unit_printed : (t : TheoryValue) (d : DiagramValue) (o : Option (List Term)) (answer terms : List Term) (u : Subroutine) (text : List ℕ) → IsDirectBy t d o → o ≡ Some answer → terms ≡ answer → IsPlan t d terms u → text ≡ unit_text u

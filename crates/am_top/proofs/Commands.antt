@@ -1,5 +1,5 @@
 -- What a command's answer says of its status.
-use Rattle.std.proofs.Common.{◌≡◌, ◌≢◌, ◌∙◌, ◌⊎◌, ◌<◌, inl, inr, ℕ, refl, sym, ap, subst, Option, Some, None, Result, Ok, Err, List, [], length}
+use Rattle.std.proofs.Common.{◌≡◌, ◌≢◌, ◌∙◌, ◌⊎◌, ◌<◌, ◌≤◌, arith, inl, inr, ℕ, refl, sym, ap, subst, Option, Some, None, Result, Ok, Err, List, [], length}
 use Rattle.am_term.specs.declared.term.Term.{Term}
 use Rattle.am_outside.specs.Causes.{Rose}
 use Rattle.am_outside.specs.Growth.{Grows}
@@ -18,7 +18,7 @@ use Rattle.am_exec.proofs.Keeping.{units-right}
 use Rattle.am_fortran.specs.declared.unit.Unit.{Unit as Subroutine}
 use Rattle.am_fortran.specs.Text.{unit_text}
 use Rattle.am_top.specs.declared.answer.File.{File}
-use Rattle.am_top.specs.declared.answer.File.TheVariants.{Theory, Diagram}
+use Rattle.am_top.specs.declared.answer.File.TheVariants.{Theory, Diagram, Text as Text_}
 use Rattle.am_top.specs.declared.answer.Answer.{Answer}
 use Rattle.am_top.specs.declared.answer.Answer.TheVariants.{Text, Usage, Refused, Unread, NoMemory}
 use Rattle.am_top.specs.declared.answer.Refusal.{Refusal}
@@ -26,13 +26,19 @@ use Rattle.am_top.specs.declared.answer.Refusal.TheVariants as refusal
 use Rattle.am_top.specs.declared.status.Status.{Status}
 use Rattle.am_top.specs.declared.status.Status.TheVariants as status
 use Rattle.am_top.specs.declared.words.Command.{Command}
-use Rattle.am_top.specs.declared.words.Command.TheVariants.{Make, Theory as TheoryCommand}
-use Rattle.am_top.specs.Answers.{Prints, Refuses, CannotRead, IsAnswerOf, IsUnread, CountsFaults, status_at, status_of, text_of, message_of}
-use Rattle.am_top.specs.Clauses.{WhereMade, WhereShown, AreFiles, IsMade, SaysTheoryFault, SaysFaultOver, SaysDiagramFault, HasAxioms, IsUnbuilt}
-use Rattle.am_top.specs.Commands.{AllSure, IsTheory, IsDiagram, HasAnswer, TheoryOf, DiagramOf, Makes, Shows}
+use Rattle.am_top.specs.declared.words.Command.TheVariants.{Make, Check, Theory as TheoryCommand}
+use Rattle.am_top.specs.Answers.{Prints, Refuses, CannotRead, NotLoaded, IsAnswerOf, IsUnread, CountsFaults, status_at, status_of, text_of, message_of}
+use Rattle.am_top.specs.Clauses.{WhereMade, WhereChecked, WhereShown, AreRead, IsAccepted, IsRefused, IsCheck, SaysFileFault, AreFiles, IsMade, SaysTheoryFault, SaysFaultOver, SaysDiagramFault, HasAxioms, IsUnbuilt}
+use Rattle.am_top.specs.Commands.{AllSure, IsTheory, IsDiagram, HasAnswer, TheoryOf, DiagramOf, TextOf, Makes, Checks, Shows, Does}
 use Rattle.am_top.specs.Direct.{IsDirect}
-use Rattle.am_top.specs.Steps.{FromDiagram, TheText}
-use Rattle.am_top.proofs.Chains.{BehindTheory}
+use Rattle.am_log.specs.Text.{byte_limit as text_limit}
+use Rattle.am_check.specs.declared.reason.Reason.{Reason}
+use Rattle.am_check.specs.Accepted.{Accepted}
+use Rattle.am_check.specs.FirstFault.{IsFirstFault}
+use Rattle.am_check.specs.Laws.{AcceptedIsRight, EachHasOneOutcome}
+use Rattle.am_top.specs.Messages.{refused_message, longer, accepted_text}
+use Rattle.am_top.specs.Steps.{FromDiagram, FromText, TheText}
+use Rattle.am_top.proofs.Chains.{BehindTheory, BehindFiles}
 use Rattle.am_top.proofs.Premises.{theories_well_formed, diagrams_well_formed, plans_give_answers}
 use Rattle.am_top.proofs.SameContents.{same_theory}
 use Rattle.am_top.proofs.DirectRight.{direct-meets}
@@ -134,6 +140,14 @@ data Made (a b : List ℕ) (sure : Type 0) (answer : Answer) : Type 0 where
   unbuilt : HasAxioms a ⊎ IsUnbuilt a b → status_of answer ≡ status.NotBuilt → Made a b sure answer
   printed : HasMade a b answer → Made a b sure answer
 
+-- what `check` comes to
+data Checked (a b x : List ℕ) (sure : Type 0) (answer : Answer) : Type 0 where
+  lost : IsLost sure answer → Checked a b x sure answer
+  no_memory : status_of answer ≡ status.NoMemory → (IsUnread answer → ⊥) → Checked a b x sure answer
+  faulty : (message : List ℕ) → SaysFileFault a b x message → Says status.File message answer → Checked a b x sure answer
+  not_accepted : (t : TheoryValue) (d : DiagramValue) (line : ℕ) (why : Reason) → AreRead a b t d → IsFirstFault t d x line why → Says status.Refused (refused_message line why) answer → Checked a b x sure answer
+  is_accepted : (t : TheoryValue) (d : DiagramValue) → AreRead a b t d → Accepted t d x → status_of answer ≡ status.Ok → text_of answer ≡ accepted_text → Checked a b x sure answer
+
 -- what `theory` comes to
 data Shown (a : List ℕ) (sure : Type 0) (answer : Answer) : Type 0 where
   lost : IsLost sure answer → Shown a sure answer
@@ -169,6 +183,32 @@ module _ (told : List ℕ → Option (List ℕ)) (sure : List ℕ → Type 0) (a
     ]
   ]
 
+  abbrev AllThree : List ℕ → List ℕ → List ℕ → Type 0
+  AllThree first second third = sure first × sure second × sure third
+
+  text_case : (third x : List ℕ) → told third ≡ Some x → (t : TheoryValue) (d : DiagramValue) → TextOf (told third) (sure third) (FromText t d) answer
+      → IsLost (sure third) answer ⊎ (((text_limit < length x) × Says status.File (longer Text_ text_limit) answer) ⊎ FromText t d x answer)
+  text_case third x ex t d (inl (inl (unread, unsure))) = let s = unread_status Text_ answer unread in inl (record { status = s.0; unread = s.1; unsure = unsure })
+  text_case third x ex t d (inl (inr (refused, long))) = let s = refused_status refusal.File _ answer refused in inr (inl (long x ex, record { status = s.0; message = s.1 }))
+  text_case third x ex t d (inr (bytes, loaded, after)) = inr (inr (subst (λ (y : List ℕ). FromText t d y answer) (loaded.same x ex) after))
+
+  check_case : (first second third a b x : List ℕ) → told first ≡ Some a → told second ≡ Some b → told third ≡ Some x → IsAnswerOf (Checks told sure first second third) answer → Checked a b x (AllThree first second third) answer
+  check_case first second third a b x ea eb ex (inl none) = no_memory (ap status_of none) (λ u. subst IsUnread none u)
+  check_case first second third a b x ea eb ex (inr h) = elim (theory_case (told first) (sure first) a ea answer (λ t. DiagramOf t (told second) (sure second) (BehindFiles told sure first second third t)) h) [
+    | inl l ↦ lost (record { status = l.status; unread = l.unread; unsure = λ s. l.unsure s.0 })
+    | inr (inl (message, says, is)) ↦ faulty message (inl says) is
+    | inr (inr (t, is_theory, after)) ↦ elim (diagram_case (told second) (sure second) b eb answer t (BehindFiles told sure first second third t) after) [
+      | inl l ↦ lost (record { status = l.status; unread = l.unread; unsure = λ s. l.unsure s.1 })
+      | inr (inl (message, says, is)) ↦ faulty message (inr (t, is_theory, inl says)) is
+      | inr (inr (d, is_diagram, more)) ↦ elim (text_case third x ex t d more) [
+        | inl l ↦ lost (record { status = l.status; unread = l.unread; unsure = λ s. l.unsure s.2 })
+        | inr (inl (long, is)) ↦ faulty _ (inr (t, is_theory, inr (d, is_diagram, long, refl))) is
+        | inr (inr (inl (line, why, fault, says))) ↦ let s = refused_status refusal.Text _ answer says in not_accepted t d line why (record { is_theory = is_theory; is_diagram = is_diagram }) fault (record { status = s.0; message = s.1 })
+        | inr (inr (inr (good, prints))) ↦ let p = printed_status _ answer prints in is_accepted t d (record { is_theory = is_theory; is_diagram = is_diagram }) good p.0 p.1
+      ]
+    ]
+  ]
+
   show_case : (first a : List ℕ) → told first ≡ Some a → IsAnswerOf (Shows told sure first) answer → Shown a (sure first) answer
   show_case first a ea (inl none) = no_memory (ap status_of none) (λ u. subst IsUnread none u)
   show_case first a ea (inr h) = elim (theory_case (told first) (sure first) a ea answer TheText h) [
@@ -176,6 +216,117 @@ module _ (told : List ℕ → Option (List ℕ)) (sure : List ℕ → Type 0) (a
     | inr (inl (message, says, is)) ↦ faulty message says is
     | inr (inr (t, is_theory, prints)) ↦ let p = printed_status _ answer prints in printed (record { status = p.0; of_contents = contents t; read = is_theory; is = p.1 })
   ]
+
+-- ---- where all names are sure
+
+refused_read : (r : Refusal) (says : List ℕ) (answer : Answer) → Refuses r says answer → IsUnread answer → ⊥
+refused_read r says (Text text) h u = u
+refused_read r says Usage h u = u
+refused_read r says (Refused s message) h u = u
+refused_read r says (Unread g) h u = h
+refused_read r says NoMemory h u = u
+
+printed_read : (Is : List ℕ → Type 0) (answer : Answer) → Prints Is answer → IsUnread answer → ⊥
+printed_read Is (Text text) h u = u
+printed_read Is Usage h u = u
+printed_read Is (Refused s message) h u = u
+printed_read Is (Unread g) h u = h
+printed_read Is NoMemory h u = u
+
+module _ (answer : Answer) (unread : IsUnread answer) where
+  -- a file that couldn't be loaded and is sure was too long
+  loaded_read : (f : File) (limit : ℕ) (told : Option (List ℕ)) (sure : Type 0) → sure → NotLoaded f limit told sure answer → ⊥
+  loaded_read f limit told sure s (inl (cannot, unsure)) = unsure s
+  loaded_read f limit told sure s (inr (refused, long)) = refused_read _ _ answer refused unread
+
+  theory_read : (told : Option (List ℕ)) (sure : Type 0) (next : TheoryValue → Answer → Type 0) → sure → ((t : TheoryValue) → next t answer → ⊥) → TheoryOf told sure next answer → ⊥
+  theory_read told sure next s rest (inl not) = loaded_read Theory file_limit told sure s not
+  theory_read told sure next s rest (inr (bytes, loaded, inl (f, is, refused))) = refused_read _ _ answer refused unread
+  theory_read told sure next s rest (inr (bytes, loaded, inr (t, is, after))) = rest t after
+
+  diagram_read : (t : TheoryValue) (told : Option (List ℕ)) (sure : Type 0) (next : DiagramValue → Answer → Type 0) → sure → ((d : DiagramValue) → next d answer → ⊥) → DiagramOf t told sure next answer → ⊥
+  diagram_read t told sure next s rest (inl not) = loaded_read Diagram file_limit told sure s not
+  diagram_read t told sure next s rest (inr (bytes, loaded, inl (f, is, refused))) = refused_read _ _ answer refused unread
+  diagram_read t told sure next s rest (inr (bytes, loaded, inr (d, is, after))) = rest d after
+
+  module _ (told : List ℕ → Option (List ℕ)) (sure : List ℕ → Type 0) where
+    made_read : (first second : List ℕ) → sure first × sure second → Makes told sure first second answer → ⊥
+    made_read first second s h = theory_read (told first) (sure first) (BehindTheory told sure first second) s.0 behind h
+      where
+        behind_diagram : (t : TheoryValue) (d : DiagramValue) → FromDiagram t d answer → ⊥
+        behind_diagram t d (inl (none, refused)) = refused_read _ _ answer refused unread
+        behind_diagram t d (inr (terms, direct, prints)) = printed_read _ answer prints unread
+
+        behind : (t : TheoryValue) → BehindTheory told sure first second t answer → ⊥
+        behind t (inl (some, refused)) = refused_read _ _ answer refused unread
+        behind t (inr (plain, after)) = diagram_read t (told second) (sure second) (FromDiagram t) s.1 (behind_diagram t) after
+
+    checked_read : (first second third : List ℕ) → sure first × sure second × sure third → Checks told sure first second third answer → ⊥
+    checked_read first second third s h = theory_read (told first) (sure first) (λ t. DiagramOf t (told second) (sure second) (BehindFiles told sure first second third t)) s.0
+        (λ t after. diagram_read t (told second) (sure second) (BehindFiles told sure first second third t) s.1 (λ d more. behind t d more) after) h
+      where
+        behind : (t : TheoryValue) (d : DiagramValue) → TextOf (told third) (sure third) (FromText t d) answer → ⊥
+        behind t d (inl not) = loaded_read Text_ text_limit (told third) (sure third) s.2 not
+        behind t d (inr (bytes, loaded, inl (line, why, fault, refused))) = refused_read _ _ answer refused unread
+        behind t d (inr (bytes, loaded, inr (good, prints))) = printed_read _ answer prints unread
+
+    shown_read : (first : List ℕ) → sure first → Shows told sure first answer → ⊥
+    shown_read first s h = theory_read (told first) (sure first) TheText s (λ t prints. printed_read _ answer prints unread) h
+
+    does_read : (c : Command) → AllSure (Some c) sure → Does told sure c answer → ⊥
+    does_read (Make first second) s h = made_read first second s h
+    does_read (Check first second third) s h = checked_read first second third s h
+    does_read (TheoryCommand first) s h = shown_read first s h
+
+    -- where all files that the words name are sure, no file is unread
+    pub never_unread : (command : Option Command) → AllSure command sure → HasAnswer told sure command answer → ⊥
+    never_unread None s h = subst IsUnread h unread
+    never_unread (Some c) s (inl none) = subst IsUnread none unread
+    never_unread (Some c) s (inr h) = does_read c s h
+
+-- ---- statuses that a command doesn't have
+
+module _ (told : List ℕ → Option (List ℕ)) (sure : List ℕ → Type 0) (answer : Answer) where
+  other_status : (s : Status) → status_of answer ≡ status.Refused → status_of answer ≡ s → (status.Refused ≡ s → ⊥) → ⊥
+  other_status s is also apart = apart (sym is ∙ also)
+
+  not_loaded_other : (f : File) (limit : ℕ) (o : Option (List ℕ)) (is_sure : Type 0) → status_of answer ≡ status.Refused → NotLoaded f limit o is_sure answer → ⊥
+  not_loaded_other f limit o is_sure s (inl (cannot, unsure)) = other_status status.Read s (unread_status f answer cannot).0 (λ e. cc)
+  not_loaded_other f limit o is_sure s (inr (refused, long)) = other_status status.File s (refused_status refusal.File _ answer refused).0 (λ e. cc)
+
+  theory_other : (o : Option (List ℕ)) (is_sure : Type 0) (next : TheoryValue → Answer → Type 0) → status_of answer ≡ status.Refused → ((t : TheoryValue) → next t answer → ⊥) → TheoryOf o is_sure next answer → ⊥
+  theory_other o is_sure next s rest (inl not) = not_loaded_other Theory file_limit o is_sure s not
+  theory_other o is_sure next s rest (inr (bytes, loaded, inl (f, is, refused))) = other_status status.File s (refused_status refusal.File _ answer refused).0 (λ e. cc)
+  theory_other o is_sure next s rest (inr (bytes, loaded, inr (t, is, after))) = rest t after
+
+  diagram_other : (t : TheoryValue) (o : Option (List ℕ)) (is_sure : Type 0) (next : DiagramValue → Answer → Type 0) → status_of answer ≡ status.Refused → ((d : DiagramValue) → next d answer → ⊥) → DiagramOf t o is_sure next answer → ⊥
+  diagram_other t o is_sure next s rest (inl not) = not_loaded_other Diagram file_limit o is_sure s not
+  diagram_other t o is_sure next s rest (inr (bytes, loaded, inl (f, is, refused))) = other_status status.File s (refused_status refusal.File _ answer refused).0 (λ e. cc)
+  diagram_other t o is_sure next s rest (inr (bytes, loaded, inr (d, is, after))) = rest d after
+
+  made_other : (first second : List ℕ) → status_of answer ≡ status.Refused → Makes told sure first second answer → ⊥
+  made_other first second s h = theory_other (told first) (sure first) (BehindTheory told sure first second) s behind h
+    where
+      behind_diagram : (t : TheoryValue) (d : DiagramValue) → FromDiagram t d answer → ⊥
+      behind_diagram t d (inl (none, refused)) = other_status status.NotBuilt s (refused_status refusal.NotBuilt _ answer refused).0 (λ e. cc)
+      behind_diagram t d (inr (terms, direct, prints)) = other_status status.Ok s (printed_status _ answer prints).0 (λ e. cc)
+
+      behind : (t : TheoryValue) → BehindTheory told sure first second t answer → ⊥
+      behind t (inl (some, refused)) = other_status status.NotBuilt s (refused_status refusal.NotBuilt _ answer refused).0 (λ e. cc)
+      behind t (inr (plain, after)) = diagram_other t (told second) (sure second) (FromDiagram t) s (behind_diagram t) after
+
+  shown_other : (first : List ℕ) → status_of answer ≡ status.Refused → Shows told sure first answer → ⊥
+  shown_other first s h = theory_other (told first) (sure first) TheText s (λ t prints. other_status status.Ok s (printed_status _ answer prints).0 (λ e. cc)) h
+
+-- an answer of this status is that a file is unread
+read_answer : (answer : Answer) → status_of answer ≡ status.Read → IsUnread answer
+read_answer (Text text) e = absurd cc
+read_answer Usage e = absurd cc
+read_answer (Refused refusal.File message) e = absurd cc
+read_answer (Refused refusal.NotBuilt message) e = absurd cc
+read_answer (Refused refusal.Text message) e = absurd cc
+read_answer (Unread g) e = tt
+read_answer NoMemory e = absurd cc
 
 -- ---- the status of a run
 
@@ -192,6 +343,11 @@ by_status : (answer : Answer) (result : Status) → Ran answer result → (resul
 by_status answer result (inl e) no_write (inl ok) = inl (e ∙ ok)
 by_status answer result (inl e) no_write (inr none) = inr (e ∙ none)
 by_status answer result (inr w) no_write s = absurd (no_write w)
+
+by_refusal : (answer : Answer) (result : Status) → Ran answer result → (result ≡ status.Write → ⊥) → (status_of answer ≡ status.Refused) ⊎ (status_of answer ≡ status.NoMemory) → (result ≡ status.Refused) ⊎ (result ≡ status.NoMemory)
+by_refusal answer result (inl e) no_write (inl is) = inl (e ∙ is)
+by_refusal answer result (inl e) no_write (inr none) = inr (e ∙ none)
+by_refusal answer result (inr w) no_write s = absurd (no_write w)
 
 -- two statuses of one answer
 abbrev Clash : Answer → Status → Status → Type 0
@@ -216,6 +372,32 @@ no_fault_over b t d message is (inr (f, err, says)) = never_both d f (diagram t 
 no_diagram_fault : (a b : List ℕ) (t : TheoryValue) (d : DiagramValue) (message : List ℕ) → IsTheory a t → IsDiagram t b d → SaysDiagramFault a b message → ⊥
 no_diagram_fault a b t d message is is_d (u, is_u, plain, says) = no_fault_over b u d message (subst (λ (x : TheoryValue). IsDiagram x b d) (one_theory a t u is is_u) is_d) says
 
+-- the files of a command are one theory and one diagram
+same_files : (a b : List ℕ) (t u : TheoryValue) (d c : DiagramValue) → AreRead a b t d → AreRead a b u c → (u ≡ t) × (c ≡ d)
+same_files a b t u d c h k =
+    let one = one_theory a u t k.is_theory h.is_theory in
+    (one, ok_once c d (diagram t b) (subst (λ (x : TheoryValue). IsDiagram x b c) one k.is_diagram) h.is_diagram)
+
+no_file_fault : (a b x : List ℕ) (t : TheoryValue) (d : DiagramValue) (message : List ℕ) → AreRead a b t d → length x ≤ text_limit → SaysFileFault a b x message → ⊥
+no_file_fault a b x t d message files short (inl says) = no_theory_fault a t message files.is_theory says
+no_file_fault a b x t d message files short (inr (u, is, inl says)) =
+    no_fault_over b u d message (subst (λ (y : TheoryValue). IsDiagram y b d) (one_theory a t u files.is_theory is) files.is_diagram) says
+no_file_fault a b x t d message files short (inr (u, is, inr (c, is_c, long, says))) = past (length x) text_limit short long
+  where
+    past : (m n : ℕ) → m ≤ n → n < m → ⊥
+    past m n h k = omega arith
+
+-- what is accepted over the files that were read is so over these
+accepted_over : (a b x : List ℕ) (t u : TheoryValue) (d c : DiagramValue) → AreRead a b t d → AreRead a b u c → Accepted u c x → Accepted t d x
+accepted_over a b x t u d c files others good =
+    let same = same_files a b t u d c files others in
+    subst (λ (y : DiagramValue). Accepted t y x) same.1 (subst (λ (y : TheoryValue). Accepted y c x) same.0 good)
+
+never_refused : EachHasOneOutcome → (a b x : List ℕ) (t u : TheoryValue) (d c : DiagramValue) (line : ℕ) (why : Reason) → AreRead a b t d → AreRead a b u c → length x ≤ text_limit → Accepted t d x → IsFirstFault u c x line why → ⊥
+never_refused law a b x t u d c line why files others short good fault =
+    let well = theories_well_formed a u others.is_theory in
+    (law u c x well (diagrams_well_formed u b c well others.is_diagram) short).not_both line why (accepted_over a b x u t c d others files good) fault
+
 -- a diagram that is direct over a theory is so over the one that was read
 direct_after : (a b : List ℕ) (t u : TheoryValue) (d c : DiagramValue) (terms : List Term) → AreFiles a b t d terms → IsTheory a u → IsDiagram u b c → ((answer : List Term) → IsDirect u c answer → ⊥) → ⊥
 direct_after a b t u d c terms m is is_c none =
@@ -237,6 +419,12 @@ module _ (told : List ℕ → Option (List ℕ)) (sure : List ℕ → Type 0) (c
   shown_at : (first a : List ℕ) → command ≡ Some (TheoryCommand first) → told first ≡ Some a → Shown a (sure first) answer
   shown_at first a e ea = show_case told sure answer first a ea (subst (λ (c : Option Command). HasAnswer told sure c answer) e has)
 
+  pub sure_from : AllSure command sure → result ≢ status.Read
+  sure_from s is = never_unread answer (read_answer answer (of_answer answer result status.Read ran is (λ w. cc))) told sure command s has
+
+  pub calm_from : (old new : ℕ) → CountsFaults (IsUnread answer) old new → AllSure command sure → new ≡ old
+  calm_from old new counts s = counts.kept (λ u. never_unread answer u told sure command s has)
+
   pub printed_from : (old new : Option (List ℕ)) → (result ≢ status.Write → Grows old new (text_of answer)) → result ≡ status.Ok
       → WhereMade command told (λ a b. (t : TheoryValue) × (d : DiagramValue) × (terms : List Term) × (u : Subroutine) × IsMade a b t d terms u × Grows old new (unit_text u))
   printed_from old new grown ok first second a b e ea eb =
@@ -248,6 +436,61 @@ module _ (told : List ℕ → Option (List ℕ)) (sure : List ℕ → Type 0) (c
         | faulty m h is ↦ let c = clash answer _ _ s is.status in absurd cc
         | unbuilt h n ↦ let c = clash answer _ _ s n in absurd cc
         | printed p ↦ (p.of_theory, p.of_diagram, p.terms, p.unit, p.made, subst (Grows old new) p.is (grown other))
+      ]
+
+  checked_at : (first second third a b x : List ℕ) → command ≡ Some (Check first second third) → told first ≡ Some a → told second ≡ Some b → told third ≡ Some x → Checked a b x (sure first × sure second × sure third) answer
+  checked_at first second third a b x e ea eb ex = check_case told sure answer first second third a b x ea eb ex (subst (λ (c : Option Command). HasAnswer told sure c answer) e has)
+
+  pub accepted_from : AcceptedIsRight → (old new : Option (List ℕ)) → (result ≢ status.Write → Grows old new (text_of answer)) → result ≡ status.Ok
+      → WhereChecked command told (λ a b x. IsAccepted a b x × Grows old new accepted_text)
+  accepted_from law old new grown ok first second third a b x e ea eb ex =
+      let s = of_answer answer result status.Ok ran ok (λ w. cc) in
+      let other : result ≢ status.Write = λ w. cc in
+      elim (checked_at first second third a b x e ea eb ex) [
+        | lost l ↦ let c = clash answer _ _ s l.status in absurd cc
+        | no_memory n r ↦ let c = clash answer _ _ s n in absurd cc
+        | faulty m h is ↦ let c = clash answer _ _ s is.status in absurd cc
+        | not_accepted t d line why files fault is ↦ let c = clash answer _ _ s is.status in absurd cc
+        | is_accepted t d files good is prints ↦
+            let well = theories_well_formed a t files.is_theory in
+            (record { t = t; d = d; files = files; accepted = good; right = law t d x well (diagrams_well_formed t b d well files.is_diagram) good }, subst (Grows old new) prints (grown other))
+      ]
+
+  pub refused_from : (old new : Option (List ℕ)) → (result ≢ status.Write → Grows old new (message_of answer)) → result ≡ status.Refused
+      → WhereChecked command told (λ a b x. (message : List ℕ) × IsRefused a b x message × Grows old new message)
+  refused_from old new grown is first second third a b x e ea eb ex =
+      let s = of_answer answer result status.Refused ran is (λ w. cc) in
+      let other : result ≢ status.Write = λ w. cc in
+      elim (checked_at first second third a b x e ea eb ex) [
+        | lost l ↦ let c = clash answer _ _ s l.status in absurd cc
+        | no_memory n r ↦ let c = clash answer _ _ s n in absurd cc
+        | faulty m h f ↦ let c = clash answer _ _ s f.status in absurd cc
+        | not_accepted t d line why files fault f ↦ (_, record { t = t; d = d; files = files; line = line; why = why; fault = fault; says = refl }, subst (Grows old new) f.message (grown other))
+        | is_accepted t d files good ok prints ↦ let c = clash answer _ _ s ok in absurd cc
+      ]
+
+  -- only a text is refused so
+  pub refused_by_from : result ≡ status.Refused → IsCheck command
+  refused_by_from is = by_command command has (of_answer answer result status.Refused ran is (λ w. cc))
+    where
+      by_command : (o : Option Command) → HasAnswer told sure o answer → status_of answer ≡ status.Refused → IsCheck o
+      by_command None h s = let c = clash answer _ _ s (ap status_of h) in absurd cc
+      by_command (Some c) (inl none) s = let k = clash answer _ _ s (ap status_of none) in absurd cc
+      by_command (Some (Make first second)) (inr h) s = absurd (made_other told sure answer first second s h)
+      by_command (Some (Check first second third)) (inr h) s = (first, second, third, refl)
+      by_command (Some (TheoryCommand first)) (inr h) s = absurd (shown_other told sure answer first s h)
+
+  pub file_of_check_from : (old new : Option (List ℕ)) → (result ≢ status.Write → Grows old new (message_of answer)) → result ≡ status.File
+      → WhereChecked command told (λ a b x. (message : List ℕ) × SaysFileFault a b x message × Grows old new message)
+  file_of_check_from old new grown is first second third a b x e ea eb ex =
+      let s = of_answer answer result status.File ran is (λ w. cc) in
+      let other : result ≢ status.Write = λ w. cc in
+      elim (checked_at first second third a b x e ea eb ex) [
+        | lost l ↦ let c = clash answer _ _ s l.status in absurd cc
+        | no_memory n r ↦ let c = clash answer _ _ s n in absurd cc
+        | faulty m h f ↦ (m, h, subst (Grows old new) f.message (grown other))
+        | not_accepted t d line why files fault f ↦ let c = clash answer _ _ s f.status in absurd cc
+        | is_accepted t d files good ok prints ↦ let c = clash answer _ _ s ok in absurd cc
       ]
 
   pub shown_from : (old new : Option (List ℕ)) → (result ≢ status.Write → Grows old new (text_of answer)) → result ≡ status.Ok
@@ -322,6 +565,26 @@ module _ (told : List ℕ → Option (List ℕ)) (sure : List ℕ → Type 0) (c
       | unbuilt (inl (u, is, some)) n ↦ absurd (some (subst (λ (x : TheoryValue). x.axioms ≡ []) (one_theory a t u m.is_theory is) m.no_axioms))
       | unbuilt (inr (u, c, is, plain, is_c, none)) n ↦ absurd (direct_after a b t u d c terms m is is_c none)
       | printed p ↦ inl p.status
+    ])
+
+    pub complete_check_at : EachHasOneOutcome → (first second third a b x : List ℕ) → command ≡ Some (Check first second third) → told first ≡ Some a → told second ≡ Some b → told third ≡ Some x → (t : TheoryValue) (d : DiagramValue) → AreRead a b t d
+        → length x ≤ text_limit → Accepted t d x → (result ≡ status.Ok) ⊎ (result ≡ status.NoMemory)
+    complete_check_at law first second third a b x e ea eb ex t d files short good = by_status answer result ran no_write (elim (checked_at first second third a b x e ea eb ex) [
+      | lost l ↦ absurd (calm_l (unread l.unread))
+      | no_memory n r ↦ inr n
+      | faulty message says is ↦ absurd (no_file_fault a b x t d message files short says)
+      | not_accepted u c line why others fault is ↦ absurd (never_refused law a b x t u d c line why files others short good fault)
+      | is_accepted u c others also ok prints ↦ inl ok
+    ])
+
+    pub complete_refusal_at : (first second third a b x : List ℕ) → command ≡ Some (Check first second third) → told first ≡ Some a → told second ≡ Some b → told third ≡ Some x → (t : TheoryValue) (d : DiagramValue) → AreRead a b t d
+        → length x ≤ text_limit → (Accepted t d x → ⊥) → (result ≡ status.Refused) ⊎ (result ≡ status.NoMemory)
+    complete_refusal_at first second third a b x e ea eb ex t d files short bad = by_refusal answer result ran no_write (elim (checked_at first second third a b x e ea eb ex) [
+      | lost l ↦ absurd (calm_l (unread l.unread))
+      | no_memory n r ↦ inr n
+      | faulty message says is ↦ absurd (no_file_fault a b x t d message files short says)
+      | not_accepted u c line why others fault is ↦ inl is.status
+      | is_accepted u c others also ok prints ↦ absurd (bad (accepted_over a b x t u d c files others also))
     ])
 
     pub complete_theory_at : (first a : List ℕ) → command ≡ Some (TheoryCommand first) → told first ≡ Some a → (c : Contents) → theory a ≡ Ok c → (result ≡ status.Ok) ⊎ (result ≡ status.NoMemory)

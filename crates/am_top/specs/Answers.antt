@@ -16,6 +16,7 @@ use Rattle.am_top.specs.Messages.{usage, cannot_read, cannot_write, no_memory, l
 abbrev pub status_at : Refusal → Status
 status_at refusal.File = status.File
 status_at refusal.NotBuilt = status.NotBuilt
+status_at refusal.Text = status.Refused
 
 -- the status of an answer
 abbrev pub status_of : Answer → Status

@@ -15,30 +15,37 @@ use Rattle.am_diagram.specs.Reading.{diagram}
 use Rattle.am_fortran.specs.declared.unit.Unit.{Unit as Subroutine}
 use Rattle.am_fortran.specs.Text.{unit_text}
 use Rattle.am_plan.specs.Plan.{IsPlan}
+use Rattle.am_log.specs.Text.{byte_limit as text_limit}
+use Rattle.am_check.specs.declared.reason.Reason.{Reason}
+use Rattle.am_check.specs.Accepted.{Accepted}
+use Rattle.am_check.specs.FirstFault.{IsFirstFault}
 use Rattle.am_top.specs.declared.answer.Answer.{Answer}
 use Rattle.am_top.specs.declared.words.Command.{Command}
-use Rattle.am_top.specs.declared.words.Command.TheVariants.{Make, Theory as TheoryCommand}
+use Rattle.am_top.specs.declared.words.Command.TheVariants.{Make, Check, Theory as TheoryCommand}
 use Rattle.am_top.specs.declared.answer.File.TheVariants as file
 use Rattle.am_top.specs.declared.answer.Refusal.TheVariants as refusal
 use Rattle.am_top.specs.Answers.{Then, Where, Prints, Refuses, AreBytes, NotLoaded, IsAnswerOf}
 use Rattle.am_top.specs.Direct.{IsDirect}
-use Rattle.am_top.specs.Messages.{theory_message, diagram_message, not_built}
+use Rattle.am_top.specs.Messages.{theory_message, diagram_message, refused_message, not_built, accepted_text}
 use Rattle.am_top.specs.declared.answer.Answer.TheVariants.{Usage}
 
 -- ---- words
 
--- `make` and the names of two files, or `theory` and the name of one; any other words have no reading
+-- `make` and the names of two files, `check` and those of three, or `theory` and the name of one; any other words have no
+-- reading
 abbrev pub reading : List (List ℕ) → Option Command
 reading [] = None
 reading (c ∷ []) = None
 reading (c ∷ a ∷ []) = if bytes_eq c (codes "theory") then Some (TheoryCommand a) else None
 reading (c ∷ a ∷ b ∷ []) = if bytes_eq c (codes "make") then Some (Make a b) else None
-reading (c ∷ a ∷ b ∷ w ∷ ws) = None
+reading (c ∷ a ∷ b ∷ x ∷ []) = if bytes_eq c (codes "check") then Some (Check a b x) else None
+reading (c ∷ a ∷ b ∷ x ∷ w ∷ ws) = None
 
 -- all files that the command names are sure
 abbrev pub AllSure : Option Command → (List ℕ → Type 0) → Type 0
 AllSure None sure = Unit {0}
 AllSure (Some (Make a b)) sure = sure a × sure b
+AllSure (Some (Check a b x)) sure = sure a × sure b × sure x
 AllSure (Some (TheoryCommand a)) sure = sure a
 
 -- ---- steps
@@ -56,6 +63,10 @@ IsDiagram t b d = diagram t b ≡ Ok d
 
 abbrev pub HasDiagramFault : Theory → List ℕ → Answer → Type 0
 HasDiagramFault t b answer = (f : DiagramFault) × (diagram t b ≡ Err f) × Refuses refusal.File (diagram_message f) answer
+
+-- the text isn't accepted; its first fault is told
+abbrev pub HasTextFault : Theory → Diagram → List ℕ → Answer → Type 0
+HasTextFault t d x answer = (line : ℕ) × (why : Reason) × IsFirstFault t d x line why × Refuses refusal.Text (refused_message line why) answer
 
 -- a theory with axioms isn't built yet
 abbrev pub HasAxiom : Theory → Answer → Type 0
@@ -83,6 +94,10 @@ DiagramOf t told sure next =
     Then (AreBytes file_limit told) (NotLoaded file.Diagram file_limit told sure) (λ b.
     Then (IsDiagram t b) (HasDiagramFault t b) next)
 
+-- the text to check is loaded
+abbrev pub TextOf : Option (List ℕ) → Type 0 → (List ℕ → Answer → Type 0) → Answer → Type 0
+TextOf told sure next = Then (AreBytes text_limit told) (NotLoaded file.Text text_limit told sure) next
+
 -- ---- commands
 
 module _ (told : List ℕ → Option (List ℕ)) (sure : List ℕ → Type 0) where
@@ -95,6 +110,18 @@ module _ (told : List ℕ → Option (List ℕ)) (sure : List ℕ → Type 0) wh
       Then (IsDirect t d) (IsNotDirect t d) (λ terms.
       Prints (IsUnitText t d terms)))))
 
+  -- a theory and over it a diagram are loaded and read
+  abbrev pub FilesOf : List ℕ → List ℕ → (Theory → Diagram → Answer → Type 0) → Answer → Type 0
+  FilesOf first second next = TheoryOf (told first) (sure first) (λ t. DiagramOf t (told second) (sure second) (next t))
+
+  -- what `check` answers over the files of three names
+  abbrev pub Checks : List ℕ → List ℕ → List ℕ → Answer → Type 0
+  Checks first second third =
+      FilesOf first second (λ t d.
+      TextOf (told third) (sure third) (λ x.
+      Where (Accepted t d x) (HasTextFault t d x) (
+      Prints (λ text. text ≡ accepted_text))))
+
   -- what `theory` answers over the file of a name
   abbrev pub Shows : List ℕ → Answer → Type 0
   Shows first =
@@ -104,6 +131,7 @@ module _ (told : List ℕ → Option (List ℕ)) (sure : List ℕ → Type 0) wh
   -- what a command answers
   abbrev pub Does : Command → Answer → Type 0
   Does (Make first second) = Makes first second
+  Does (Check first second third) = Checks first second third
   Does (TheoryCommand first) = Shows first
 
   -- the answer of words: the usage where they have no reading, else that of the command

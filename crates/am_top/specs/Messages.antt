@@ -9,6 +9,14 @@ use Rattle.am_theory.specs.declared.fault.TheoryFault.{TheoryFault}
 use Rattle.am_diagram.specs.declared.fault.DiagramKind.{DiagramKind}
 use Rattle.am_diagram.specs.declared.fault.DiagramKind.TheVariants as diagram
 use Rattle.am_diagram.specs.declared.fault.DiagramFault.{DiagramFault}
+use Rattle.am_log.specs.declared.fault.LogKind.{LogKind}
+use Rattle.am_log.specs.declared.fault.LogKind.TheVariants as log
+use Rattle.am_fortran.specs.declared.fault.UnitKind.{UnitKind}
+use Rattle.am_fortran.specs.declared.fault.UnitKind.TheVariants as unit
+use Rattle.am_exec.specs.declared.fault.ExecKind.{ExecKind}
+use Rattle.am_exec.specs.declared.fault.ExecKind.TheVariants as exec
+use Rattle.am_check.specs.declared.reason.Reason.{Reason}
+use Rattle.am_check.specs.declared.reason.Reason.TheVariants as reason
 use Rattle.am_top.specs.declared.answer.File.{File}
 use Rattle.am_top.specs.declared.answer.File.TheVariants as file
 
@@ -55,10 +63,51 @@ diagram_words diagram.NoOutput = codes "no output"
 diagram_words diagram.NoRequire = codes "no requirement"
 diagram_words diagram.NoMemory = codes "no memory"
 
+abbrev pub log_words : LogKind → List ℕ
+log_words log.NotProof = codes "not a proof"
+log_words log.BadWrap = codes "bad line"
+log_words log.BadRow = codes "bad row"
+log_words log.BadNumber = codes "bad row number"
+log_words log.UnknownName = codes "unknown name"
+log_words log.BadSort = codes "bad sort"
+log_words log.NoMemory = codes "no memory"
+
+abbrev pub unit_words : UnitKind → List ℕ
+unit_words unit.Cut = codes "text is cut"
+unit_words unit.BadStatement = codes "bad statement"
+unit_words unit.Order = codes "statement out of order"
+unit_words unit.NoMemory = codes "no memory"
+
+abbrev pub exec_words : ExecKind → List ℕ
+exec_words exec.UnknownRoutine = codes "unknown routine"
+exec_words exec.WrongCount = codes "wrong number of arguments"
+exec_words (exec.NotSet name) = name ++ codes " is not set"
+exec_words exec.WrongSort = codes "wrong sort"
+exec_words exec.SetTwice = codes "variable set twice"
+exec_words exec.BadDeclaration = codes "bad declaration"
+exec_words exec.OutputNotSet = codes "output not set"
+exec_words exec.TooLarge = codes "term too large"
+exec_words exec.NoMemory = codes "no memory"
+
+-- the words of each reason why a text is refused
+abbrev pub reason_words : Reason → List ℕ
+reason_words (reason.Log k) = log_words k
+reason_words reason.NoSuchParent = codes "no such parent"
+reason_words reason.BadPlace = codes "bad place"
+reason_words reason.BadBindings = codes "bad bindings"
+reason_words reason.NotEqual = codes "parts differ"
+reason_words reason.AnswersDiffer = codes "answers differ"
+reason_words reason.WrongConclusion = codes "wrong conclusion"
+reason_words reason.NotFinal = codes "proof is not finished"
+reason_words (reason.Unit k) = unit_words k
+reason_words (reason.Exec k) = exec_words k
+reason_words reason.Differs = codes "program differs from proof"
+
 -- the word by which a message names a file
 abbrev pub word_of : File → List ℕ
 word_of file.Theory = codes "theory"
 word_of file.Diagram = codes "diagram"
+word_of file.Text = codes "text"
 
 -- `amphion: FILE: byte P: KIND`
 abbrev pub at_byte : File → ℕ → List ℕ → List ℕ
@@ -77,13 +126,17 @@ diagram_message f = at_byte file.Diagram f.place (diagram_words f.kind)
 
 -- `amphion: FILE: not built yet`
 abbrev pub not_built : File → List ℕ
-not_built file.Theory = codes "amphion: theory: not built yet" ++ 10 ∷ []
-not_built file.Diagram = codes "amphion: diagram: not built yet" ++ 10 ∷ []
+not_built f = codes "amphion: " ++ word_of f ++ codes ": not built yet" ++ 10 ∷ []
+
+-- `amphion: refused at line L: REASON`
+unfoldable pub refused_message : ℕ → Reason → List ℕ
+refused_message line why = codes "amphion: refused at line " ++ decimal line ++ codes ": " ++ reason_words why ++ 10 ∷ []
 
 -- `amphion: cannot read FILE`
 abbrev pub cannot_read : File → List ℕ
 cannot_read file.Theory = codes "amphion: cannot read theory" ++ 10 ∷ []
 cannot_read file.Diagram = codes "amphion: cannot read diagram" ++ 10 ∷ []
+cannot_read file.Text = codes "amphion: cannot read text" ++ 10 ∷ []
 
 abbrev pub cannot_write : List ℕ
 cannot_write = codes "amphion: cannot write" ++ 10 ∷ []
@@ -91,5 +144,13 @@ cannot_write = codes "amphion: cannot write" ++ 10 ∷ []
 abbrev pub no_memory : List ℕ
 no_memory = codes "amphion: no memory" ++ 10 ∷ []
 
+-- `accepted`
+abbrev pub accepted_text : List ℕ
+accepted_text = codes "accepted" ++ 10 ∷ []
+
+-- how the program is called
 abbrev pub usage : List ℕ
-usage = codes "usage: amphion make THEORY DIAGRAM" ++ 10 ∷ codes "       amphion theory THEORY" ++ 10 ∷ []
+usage =
+    codes "usage: amphion make THEORY DIAGRAM" ++ 10
+    ∷ codes "       amphion check THEORY DIAGRAM TEXT" ++ 10
+    ∷ codes "       amphion theory THEORY" ++ 10 ∷ []

@@ -14,10 +14,11 @@ use Rattle.am_diagram.specs.Facts.{WellFormed}
 use Rattle.am_top.specs.declared.answer.Answer.{Answer}
 use Rattle.am_top.specs.declared.answer.Answer.TheVariants.{Text, Usage, Refused, Unread, NoMemory}
 use Rattle.am_top.specs.declared.answer.Refusal.TheVariants as refusal
-use Rattle.am_top.specs.Answers.{Then, Prints, AreBytes, IsAnswerOf}
-use Rattle.am_top.specs.Commands.{IsTheory, IsDiagram, TheoryOf, DiagramOf, IsNotDirect, IsUnitText}
+use Rattle.am_check.specs.Accepted.{Accepted}
+use Rattle.am_top.specs.Answers.{Then, Where, Prints, AreBytes, IsAnswerOf}
+use Rattle.am_top.specs.Commands.{IsTheory, IsDiagram, TheoryOf, DiagramOf, FilesOf, HasTextFault, IsNotDirect, IsUnitText}
 use Rattle.am_top.specs.Direct.{IsDirect}
-use Rattle.am_top.specs.Messages.{theory_message, diagram_message}
+use Rattle.am_top.specs.Messages.{theory_message, diagram_message, accepted_text}
 
 -- the theory of a file's bytes
 pub record FoundTheory (told : Option (List ℕ)) (t : Theory) : Type 0 where
@@ -41,9 +42,22 @@ NoTheory told sure = IsAnswerOf (TheoryOf told sure (λ t answer. ⊥))
 abbrev pub NoDiagram : Theory → Option (List ℕ) → Type 0 → Answer → Type 0
 NoDiagram t told sure = IsAnswerOf (DiagramOf t told sure (λ d answer. ⊥))
 
+-- the theory and the diagram of two files' bytes
+pub record FoundFiles (told : List ℕ → Option (List ℕ)) (first second : List ℕ) (t : Theory) (d : Diagram) : Type 0 where
+  pub in_theory : FoundTheory (told first) t
+  pub in_diagram : FoundDiagram t (told second) d
+
+-- the answer where a theory or a diagram wasn't found
+abbrev pub NoFiles : (List ℕ → Option (List ℕ)) → (List ℕ → Type 0) → List ℕ → List ℕ → Answer → Type 0
+NoFiles told sure first second = IsAnswerOf (FilesOf told sure first second (λ t d answer. ⊥))
+
 -- the rest of `make` behind the diagram
 abbrev pub FromDiagram : Theory → Diagram → Answer → Type 0
 FromDiagram t d = Then (IsDirect t d) (IsNotDirect t d) (λ terms. Prints (IsUnitText t d terms))
+
+-- the rest of `check` behind the text
+abbrev pub FromText : Theory → Diagram → List ℕ → Answer → Type 0
+FromText t d x = Where (Accepted t d x) (HasTextFault t d x) (Prints (λ text. text ≡ accepted_text))
 
 -- the rest of `theory` behind the theory
 abbrev pub TheText : Theory → Answer → Type 0

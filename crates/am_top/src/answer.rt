@@ -8,6 +8,7 @@ use am_term::NoMemory;
 pub enum File {
     Theory,
     Diagram,
+    Text,
 }
 
 /// Why files have no text to print, beside that they can't be read. Each has its status.
@@ -17,6 +18,8 @@ pub enum Refusal {
     File,
     /// A file is of a kind that isn't built yet.
     NotBuilt,
+    /// A text isn't accepted.
+    Text,
 }
 
 /// What words and files come to, before anything is written: the text to print, or why there is none.

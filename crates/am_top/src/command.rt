@@ -1,4 +1,4 @@
-ghost use Rattle.std.specs.Prelude.{◌≡◌, ◌≢◌, ◌⊎◌, ℕ, None, Ok, List, map, string_bytes};
+ghost use Rattle.std.specs.Prelude.{◌≡◌, ◌≢◌, ◌⊎◌, ◌≤◌, ℕ, None, Ok, List, length, map, string_bytes};
 ghost use Rattle.am_term.specs.declared.term.Term.{Term};
 ghost use Rattle.am_outside.specs.Causes.{Rose};
 ghost use Rattle.am_outside.specs.Growth.{Grows};
@@ -14,18 +14,22 @@ ghost use Rattle.am_fortran.specs.declared.unit.Unit.{Unit as Subroutine};
 ghost use Rattle.am_top.specs.declared.answer.Answer.{Answer};
 ghost use Rattle.am_top.specs.Answers.{text_of, message_of, status_of, page, Failed};
 ghost use Rattle.am_top.specs.Commands.{reading, AllSure, HasAnswer};
-ghost use Rattle.am_top.specs.Clauses.{WhereMade, WhereShown, AreFiles, IsMade, SaysTheoryFault, SaysDiagramFault, HasAxioms, IsUnbuilt};
+ghost use Rattle.am_log.specs.Text.{byte_limit as text_limit};
+ghost use Rattle.am_check.specs.Accepted.{Accepted};
+ghost use Rattle.am_top.specs.Messages.{accepted_text};
+ghost use Rattle.am_top.specs.Clauses.{WhereMade, WhereChecked, WhereShown, AreRead, IsAccepted, IsRefused, IsCheck, SaysFileFault, AreFiles, IsMade, SaysTheoryFault, SaysDiagramFault, HasAxioms, IsUnbuilt};
 
 use crate::answering::answer_words;
 use crate::printing::print;
 use crate::status::Status;
+use am_check::{law_of_acceptance, law_of_refusal};
 use am_outside::{Library, Sink};
 use am_world::World;
 use std::alloc::Global;
 
 /// Carries out the command that the words are: `make THEORY DIAGRAM` prints the subroutine that solves
-/// the diagram over the theory on `out`, `theory THEORY` the theory's canonical text. Messages go to
-/// `err`. The answer is the exit status. `world` is any interpretation: it is in the contract alone.
+/// the diagram over the theory on `out`, `check THEORY DIAGRAM TEXT` that the text is accepted, `theory THEORY` the
+/// theory's canonical text. Messages go to `err`. The answer is the exit status. `world` is any interpretation: it is in the contract alone.
 pub fn run<L: Library, O: Sink, E: Sink, W: World>(
     alloc: Global,
     words: &[String],
@@ -48,6 +52,13 @@ pub fn run<L: Library, O: Sink, E: Sink, W: World>(
         (t : Theory) (d : Diagram) (answer : List Term) (u : Subroutine) → IsMade a b t d answer u → IsWorld t.sig (W.meaning world.now) → Right (W.meaning world.now) t d u) }
     ensures right_in_all { result ≡ Status.Ok → WhereMade (reading (map string_bytes words.now)) (L.told library.old) (λ a b.
         (t : Theory) (d : Diagram) (answer : List Term) (u : Subroutine) → IsMade a b t d answer u → (w : Interpretation) → IsWorld t.sig w → Right w t d u) }
+    // What `check` accepted is a proof and the unit of its answer, and that unit is right in every model of the axioms.
+    ensures accepted { result ≡ Status.Ok → WhereChecked (reading (map string_bytes words.now)) (L.told library.old) (λ a b x.
+        IsAccepted a b x × Grows (O.held out.old) (O.held out.new) accepted_text) }
+    // What it refused isn't accepted, and the message tells the first fault; only `check` is refused so.
+    ensures refused { result ≡ Status.Refused → WhereChecked (reading (map string_bytes words.now)) (L.told library.old) (λ a b x.
+        (message : List ℕ) × IsRefused a b x message × Grows (E.held err.old) (E.held err.new) message) }
+    ensures refused_by { result ≡ Status.Refused → IsCheck (reading (map string_bytes words.now)) }
     // What `theory` printed is the canonical text of the theory that the file is.
     ensures shown { result ≡ Status.Ok → WhereShown (reading (map string_bytes words.now)) (L.told library.old) (λ a.
         (c : Contents) × (theory_of a ≡ Ok c) × Grows (O.held out.old) (O.held out.new) (canon c)) }
@@ -59,6 +70,9 @@ pub fn run<L: Library, O: Sink, E: Sink, W: World>(
     // So is the file of `theory`.
     ensures file_of_theory { result ≡ Status.File → WhereShown (reading (map string_bytes words.now)) (L.told library.old) (λ a.
         (message : List ℕ) × SaysTheoryFault a message × Grows (E.held err.old) (E.held err.new) message) }
+    // So is a file of `check`.
+    ensures file_of_check { result ≡ Status.File → WhereChecked (reading (map string_bytes words.now)) (L.told library.old) (λ a b x.
+        (message : List ℕ) × SaysFileFault a b x message × Grows (E.held err.old) (E.held err.new) message) }
     // The theory has an axiom, or the diagram isn't direct; only `make` is refused so.
     ensures not_built { result ≡ Status.NotBuilt → WhereMade (reading (map string_bytes words.now)) (L.told library.old) (λ a b. HasAxioms a ⊎ IsUnbuilt a b) }
     ensures built { result ≡ Status.NotBuilt → WhereShown (reading (map string_bytes words.now)) (L.told library.old) (λ a. ⊥) }
@@ -74,12 +88,20 @@ pub fn run<L: Library, O: Sink, E: Sink, W: World>(
     ensures complete { WhereMade (reading (map string_bytes words.now)) (L.told library.old) (λ a b. (t : Theory) (d : Diagram) (answer : List Term) → AreFiles a b t d answer
         → (Rose (L.faults library.old) (L.faults library.new) → ⊥) → (Rose (O.faults out.old) (O.faults out.new) → ⊥) → (Rose (E.faults err.old) (E.faults err.new) → ⊥)
         → (result ≡ Status.Ok) ⊎ (result ≡ Status.NoMemory)) }
+    ensures complete_check { WhereChecked (reading (map string_bytes words.now)) (L.told library.old) (λ a b x. (t : Theory) (d : Diagram) → AreRead a b t d → length x ≤ text_limit → Accepted t d x
+        → (Rose (L.faults library.old) (L.faults library.new) → ⊥) → (Rose (O.faults out.old) (O.faults out.new) → ⊥) → (Rose (E.faults err.old) (E.faults err.new) → ⊥)
+        → (result ≡ Status.Ok) ⊎ (result ≡ Status.NoMemory)) }
+    ensures complete_refusal { WhereChecked (reading (map string_bytes words.now)) (L.told library.old) (λ a b x. (t : Theory) (d : Diagram) → AreRead a b t d → length x ≤ text_limit → (Accepted t d x → ⊥)
+        → (Rose (L.faults library.old) (L.faults library.new) → ⊥) → (Rose (O.faults out.old) (O.faults out.new) → ⊥) → (Rose (E.faults err.old) (E.faults err.new) → ⊥)
+        → (result ≡ Status.Refused) ⊎ (result ≡ Status.NoMemory)) }
     ensures complete_theory { WhereShown (reading (map string_bytes words.now)) (L.told library.old) (λ a. (c : Contents) → theory_of a ≡ Ok c
         → (Rose (L.faults library.old) (L.faults library.new) → ⊥) → (Rose (O.faults out.old) (O.faults out.new) → ⊥) → (Rose (E.faults err.old) (E.faults err.new) → ⊥)
         → (result ≡ Status.Ok) ⊎ (result ≡ Status.NoMemory)) }
     // No other status comes from these commands.
-    ensures only { (result ≡ Status.Ok) ⊎ (result ≡ Status.Usage) ⊎ (result ≡ Status.File) ⊎ (result ≡ Status.NotBuilt) ⊎ (result ≡ Status.Read) ⊎ (result ≡ Status.Write) ⊎ (result ≡ Status.NoMemory) }
+    ensures only { (result ≡ Status.Ok) ⊎ (result ≡ Status.Usage) ⊎ (result ≡ Status.File) ⊎ (result ≡ Status.NotBuilt) ⊎ (result ≡ Status.Refused) ⊎ (result ≡ Status.Read) ⊎ (result ≡ Status.Write) ⊎ (result ≡ Status.NoMemory) }
 {
+    law_of_acceptance();
+    law_of_refusal();
     let answer = answer_words(alloc, words, library);
     print(out, err, &answer)
 }

@@ -1,9 +1,13 @@
 ghost use Rattle.std.specs.Prelude.{◌≡◌, ◌++◌, codes, IfOk, OnOk};
 ghost use Rattle.std.specs.Fmt.{decimal};
-ghost use Rattle.am_top.specs.Messages.{text_words as words_of_text, theory_words as words_of_theory, diagram_words as words_of_diagram, word_of as word_of_file, at_byte as message_at_byte, longer as message_of_length, theory_message as message_of_theory, diagram_message as message_of_diagram, not_built as message_of_not_built};
+ghost use Rattle.am_top.specs.Messages.{text_words as words_of_text, theory_words as words_of_theory, diagram_words as words_of_diagram, word_of as word_of_file, at_byte as message_at_byte, longer as message_of_length, theory_message as message_of_theory, diagram_message as message_of_diagram, not_built as message_of_not_built, refused_message as message_of_refusal, accepted_text as text_of_acceptance, reason_words as words_of_reason, log_words as words_of_log, unit_words as words_of_unit, exec_words as words_of_exec};
 
 use crate::answer::File;
+use am_check::Reason;
 use am_diagram::{DiagramFault, DiagramKind};
+use am_exec::ExecKind;
+use am_fortran::UnitKind;
+use am_log::LogKind;
 use am_term::NoMemory;
 use am_text::TextKind;
 use am_theory::{TheoryFault, TheoryKind};
@@ -36,16 +40,79 @@ pub fn longer(alloc: Global, file: File, limit: usize) -> Result<Vec<u8>, NoMemo
     Ok(message)
 }
 
+/// What is printed of a text that is accepted.
+pub fn accepted_text(alloc: Global) -> Result<Vec<u8>, NoMemory>
+    ensures { IfOk result (λ m. m.items ≡ text_of_acceptance) }
+{
+    let mut text = Vec::new(alloc);
+    text.extend_from_slice(b"accepted\n")?;
+    Ok(text)
+}
+
 /// What is said of a file of a kind that isn't built yet.
 pub fn not_built(alloc: Global, file: File) -> Result<Vec<u8>, NoMemory>
     ensures { IfOk result (λ m. m.items ≡ message_of_not_built file) }
 {
-    let text: &[u8] = match file {
-        File::Theory => b"amphion: theory: not built yet\n",
-        File::Diagram => b"amphion: diagram: not built yet\n",
-    };
-    let message = Vec::from_slice(alloc, text)?;
+    let mut message = started(alloc, file)?;
+    message.extend_from_slice(b": not built yet\n")?;
     Ok(message)
+}
+
+/// What is said of a text that isn't accepted: the line of its first fault, and why.
+#[tactic(auto, unfolding(crate::specs::Messages::refused_message))]
+pub fn refused_message(alloc: Global, line: u32, why: &Reason) -> Result<Vec<u8>, NoMemory>
+    ensures { IfOk result (λ m. m.items ≡ message_of_refusal line why.now) }
+{
+    let mut message = Vec::from_slice(alloc, b"amphion: refused at line ")?;
+    message.extend_from_slice(line.to_string(alloc)?.as_bytes())?;
+    message.extend_from_slice(b": ")?;
+    push_reason(&mut message, why)?;
+    message.extend_from_slice(b"\n")?;
+    Ok(message)
+}
+
+fn push_reason(message: &mut Vec<u8>, why: &Reason) -> Result<(), NoMemory>
+    ensures { OnOk result (message.new.items ≡ message.old.items ++ words_of_reason why.now) }
+{
+    match why {
+        Reason::Log(kind) => push_words(message, log_words(*kind)),
+        Reason::NoSuchParent => push_words(message, b"no such parent"),
+        Reason::BadPlace => push_words(message, b"bad place"),
+        Reason::BadBindings => push_words(message, b"bad bindings"),
+        Reason::NotEqual => push_words(message, b"parts differ"),
+        Reason::AnswersDiffer => push_words(message, b"answers differ"),
+        Reason::WrongConclusion => push_words(message, b"wrong conclusion"),
+        Reason::NotFinal => push_words(message, b"proof is not finished"),
+        Reason::Unit(kind) => push_words(message, unit_words(*kind)),
+        Reason::Exec(kind) => push_exec(message, kind),
+        Reason::Differs => push_words(message, b"program differs from proof"),
+    }
+}
+
+fn push_exec(message: &mut Vec<u8>, kind: &ExecKind) -> Result<(), NoMemory>
+    ensures { OnOk result (message.new.items ≡ message.old.items ++ words_of_exec kind.now) }
+{
+    match kind {
+        ExecKind::NotSet(name) => {
+            push_words(message, name.as_str().as_bytes())?;
+            push_words(message, b" is not set")
+        }
+        ExecKind::UnknownRoutine => push_words(message, b"unknown routine"),
+        ExecKind::WrongCount => push_words(message, b"wrong number of arguments"),
+        ExecKind::WrongSort => push_words(message, b"wrong sort"),
+        ExecKind::SetTwice => push_words(message, b"variable set twice"),
+        ExecKind::BadDeclaration => push_words(message, b"bad declaration"),
+        ExecKind::OutputNotSet => push_words(message, b"output not set"),
+        ExecKind::TooLarge => push_words(message, b"term too large"),
+        ExecKind::NoMemory => push_words(message, b"no memory"),
+    }
+}
+
+fn push_words(message: &mut Vec<u8>, words: &[u8]) -> Result<(), NoMemory>
+    ensures { OnOk result (message.new.items ≡ message.old.items ++ words.now) }
+{
+    message.extend_from_slice(words)?;
+    Ok(())
 }
 
 // The word by which a message names a file.
@@ -55,6 +122,7 @@ fn word_of(file: File) -> &'static [u8]
     match file {
         File::Theory => b"theory",
         File::Diagram => b"diagram",
+        File::Text => b"text",
     }
 }
 
@@ -140,5 +208,30 @@ fn diagram_words(kind: DiagramKind) -> &'static [u8]
         DiagramKind::NoOutput => b"no output",
         DiagramKind::NoRequire => b"no requirement",
         DiagramKind::NoMemory => b"no memory",
+    }
+}
+
+fn log_words(kind: LogKind) -> &'static [u8]
+    ensures { result.now ≡ words_of_log kind }
+{
+    match kind {
+        LogKind::NotProof => b"not a proof",
+        LogKind::BadWrap => b"bad line",
+        LogKind::BadRow => b"bad row",
+        LogKind::BadNumber => b"bad row number",
+        LogKind::UnknownName => b"unknown name",
+        LogKind::BadSort => b"bad sort",
+        LogKind::NoMemory => b"no memory",
+    }
+}
+
+fn unit_words(kind: UnitKind) -> &'static [u8]
+    ensures { result.now ≡ words_of_unit kind }
+{
+    match kind {
+        UnitKind::Cut => b"text is cut",
+        UnitKind::BadStatement => b"bad statement",
+        UnitKind::Order => b"statement out of order",
+        UnitKind::NoMemory => b"no memory",
     }
 }

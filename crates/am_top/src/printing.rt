@@ -24,7 +24,7 @@ pub fn print<O: Sink, E: Sink>(out: &mut O, err: &mut E, answer: &Answer) -> Sta
         Answer::Text(text) => print_text(out, err, text.as_slice()),
         Answer::Usage => refuse(
             err,
-            b"usage: amphion make THEORY DIAGRAM\n       amphion theory THEORY\n",
+            b"usage: amphion make THEORY DIAGRAM\n       amphion check THEORY DIAGRAM TEXT\n       amphion theory THEORY\n",
             Status::Usage,
         ),
         Answer::Refused(refusal, message) => refuse(err, message.as_slice(), status_at(*refusal)),
@@ -41,6 +41,7 @@ fn status_at(refusal: Refusal) -> Status
     match refusal {
         Refusal::File => Status::File,
         Refusal::NotBuilt => Status::NotBuilt,
+        Refusal::Text => Status::Refused,
     }
 }
 
@@ -50,6 +51,7 @@ fn not_read(file: File) -> &'static [u8]
     match file {
         File::Theory => b"amphion: cannot read theory\n",
         File::Diagram => b"amphion: cannot read diagram\n",
+        File::Text => b"amphion: cannot read text\n",
     }
 }
 

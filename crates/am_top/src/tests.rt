@@ -62,10 +62,11 @@ fn file(alloc: Global, name: &str, text: &str) -> Result<(Name, Vec<u8>), Fail> 
     Ok((name, bytes))
 }
 
-fn shelf_of(alloc: Global, theory: &str, diagram: &str) -> Result<Shelf, Fail> {
+fn shelf_of(alloc: Global, theory: &str, diagram: &str, text: &str) -> Result<Shelf, Fail> {
     let mut files = Vec::new(alloc);
     files.push(file(alloc, "t", theory)?)?;
     files.push(file(alloc, "d", diagram)?)?;
+    files.push(file(alloc, "p", text)?)?;
     Ok(Shelf::new(files, Vec::new(alloc)))
 }
 
@@ -77,8 +78,18 @@ fn made(
     diagram: &str,
     fail: Option<(u64, u64)>,
 ) -> Result<Outcome, Fail> {
+    let shelf = shelf_of(alloc, theory, diagram, "")?;
+    ran(alloc, words, shelf, fail)
+}
+
+/// Runs words over these files, with such a page.
+fn ran(
+    alloc: Global,
+    words: &[&str],
+    mut shelf: Shelf,
+    fail: Option<(u64, u64)>,
+) -> Result<Outcome, Fail> {
     let words = words_of(alloc, words)?;
-    let mut shelf = shelf_of(alloc, theory, diagram)?;
     let mut planned = Vec::new(alloc);
     if let Some(pair) = fail {
         planned.push(pair)?;
@@ -138,6 +149,86 @@ fn makes_units(rt: HostRuntime) -> Result<(), Fail> {
     expect_made(&rt, TWO_ROUTINES, NEST, Status::Ok, NEST_UNIT, "")?;
     expect_made(&rt, SUMS, SUM, Status::Ok, SUM_UNIT, "")?;
     expect_made(&rt, TWO_ROUTINES, TWICE, Status::Ok, TWICE_UNIT, "")?;
+    Ok(())
+}
+
+const CONV_PROOF: &str =
+    "C (proof 1)\nC (1 (goal) (or (not (= et?0 (utc2et U)))) (answer et?0))\nC (2 (reflex 1 1 (with (utc2et U))) (or) (answer (utc2et U)))\n";
+
+const PARTS_DIFFER: &str =
+    "C (proof 1)\nC (1 (goal) (or (not (= et?0 (utc2et U)))) (answer et?0))\nC (2 (reflex 1 1 (with et?0)) (or) (answer (utc2et U)))\n";
+
+const UNFINISHED: &str = "C (proof 1)\nC (1 (goal) (or (not (= et?0 (utc2et U)))) (answer et?0))\n";
+
+const TURNED_UNIT: &str =
+    "      SUBROUTINE CONV(U, E)\n      CHARACTER*(*) U\n      DOUBLE PRECISION E\n      CALL UTC2ET(E, U)\n      END\n";
+
+const OTHER_UNIT: &str =
+    "      SUBROUTINE CONV(U, E)\n      CHARACTER*(*) U\n      DOUBLE PRECISION E\n      DOUBLE PRECISION T00001\n      CALL UTC2ET(U, T00001)\n      CALL SCALE(T00001, E)\n      END\n";
+
+/// That `check` of a proof and a unit behind it left this status, text and message.
+fn expect_checked(
+    rt: &(impl Abort + AllocGlobal),
+    proof: &str,
+    unit: &str,
+    status: Status,
+    out: &str,
+    err: &str,
+) -> Result<(), Fail> {
+    let mut text = String::from_str(rt.alloc(), proof)?;
+    text.push_str(unit)?;
+    let shelf = shelf_of(rt.alloc(), TWO_ROUTINES, CONV, text.as_str())?;
+    let outcome = ran(rt.alloc(), &["check", "t", "d", "p"], shelf, None)?;
+    expect(rt, outcome, status, out, err);
+    Ok(())
+}
+
+#[test]
+fn accepts_a_proof_and_its_unit(rt: HostRuntime) -> Result<(), Fail> {
+    expect_checked(&rt, CONV_PROOF, CONV_UNIT, Status::Ok, "accepted\n", "")
+}
+
+#[test]
+fn tells_the_first_fault_of_a_text(rt: HostRuntime) -> Result<(), Fail> {
+    for (proof, unit, message) in [
+        ("", CONV_UNIT, "amphion: refused at line 1: not a proof\n"),
+        (
+            PARTS_DIFFER,
+            CONV_UNIT,
+            "amphion: refused at line 3: parts differ\n",
+        ),
+        (
+            UNFINISHED,
+            CONV_UNIT,
+            "amphion: refused at line 2: proof is not finished\n",
+        ),
+        (
+            CONV_PROOF,
+            TURNED_UNIT,
+            "amphion: refused at line 7: E is not set\n",
+        ),
+        (
+            CONV_PROOF,
+            OTHER_UNIT,
+            "amphion: refused at line 10: program differs from proof\n",
+        ),
+    ] {
+        expect_checked(&rt, proof, unit, Status::Refused, "", message)?;
+    }
+    Ok(())
+}
+
+#[test]
+fn checks_over_good_files_alone(rt: HostRuntime) -> Result<(), Fail> {
+    let shelf = shelf_of(rt.alloc(), TWO_ROUTINES, "(diagram", CONV_PROOF)?;
+    let outcome = ran(rt.alloc(), &["check", "t", "d", "p"], shelf, None)?;
+    expect(
+        &rt,
+        outcome,
+        Status::File,
+        "",
+        "amphion: diagram: byte 8: unclosed form\n",
+    );
     Ok(())
 }
 
@@ -469,13 +560,16 @@ fn expect_words(
     Ok(())
 }
 
-const USAGE: &str = "usage: amphion make THEORY DIAGRAM\n       amphion theory THEORY\n";
+const USAGE: &str =
+    "usage: amphion make THEORY DIAGRAM\n       amphion check THEORY DIAGRAM TEXT\n       amphion theory THEORY\n";
 
 #[test]
 fn reads_the_words(rt: HostRuntime) -> Result<(), Fail> {
     expect_words(&rt, &[], Status::Usage, USAGE)?;
     expect_words(&rt, &["make", "t"], Status::Usage, USAGE)?;
     expect_words(&rt, &["make", "t", "d", "x"], Status::Usage, USAGE)?;
+    expect_words(&rt, &["check", "t", "d"], Status::Usage, USAGE)?;
+    expect_words(&rt, &["check", "t", "d", "p", "p"], Status::Usage, USAGE)?;
     expect_words(&rt, &["theory"], Status::Usage, USAGE)?;
     expect_words(&rt, &["theory", "t", "d"], Status::Usage, USAGE)?;
     expect_words(&rt, &["help"], Status::Usage, USAGE)?;
@@ -497,6 +591,12 @@ fn reads_the_words(rt: HostRuntime) -> Result<(), Fail> {
         &["make", "t", "x"],
         Status::Read,
         "amphion: cannot read diagram\n",
+    )?;
+    expect_words(
+        &rt,
+        &["check", "t", "d", "x"],
+        Status::Read,
+        "amphion: cannot read text\n",
     )?;
     Ok(())
 }
@@ -543,5 +643,6 @@ fn stops_at_a_failed_put(rt: HostRuntime) -> Result<(), Fail> {
 fn numbers_the_statuses(rt: HostRuntime) {
     assert_eq!(rt; Status::Ok.code(), 0);
     assert_eq!(rt; Status::File.code(), 2);
+    assert_eq!(rt; Status::Refused.code(), 5);
     assert_eq!(rt; Status::NotBuilt.code(), 11);
 }

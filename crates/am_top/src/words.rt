@@ -8,9 +8,20 @@ use std::alloc::Global;
 #[derive(Debug, Drop)]
 pub enum Command {
     /// The subroutine that solves a diagram over a theory.
-    Make { theory: Name, diagram: Name },
+    Make {
+        theory: Name,
+        diagram: Name,
+    },
+    /// Whether a text is accepted for a diagram over a theory.
+    Check {
+        theory: Name,
+        diagram: Name,
+        text: Name,
+    },
     /// The canonical text of a theory.
-    Theory { theory: Name },
+    Theory {
+        theory: Name,
+    },
 }
 
 /// The command that words are, if they have a reading.
@@ -24,6 +35,13 @@ pub fn read_words(alloc: Global, words: &[String]) -> Result<Option<Command>, No
             theory: Name::new(alloc, theory.as_str())?,
             diagram: Name::new(alloc, diagram.as_str())?,
         })),
+        [command, theory, diagram, text] if command.as_str() == "check" => Ok(Some(
+            Command::Check {
+                theory: Name::new(alloc, theory.as_str())?,
+                diagram: Name::new(alloc, diagram.as_str())?,
+                text: Name::new(alloc, text.as_str())?,
+            },
+        )),
         [command, theory] if command.as_str() == "theory" => Ok(Some(Command::Theory {
             theory: Name::new(alloc, theory.as_str())?,
         })),
