@@ -23,5 +23,6 @@ example() {
 }
 
 example lonlat.f make "$data/directions.theory" "$data/lonlat.diagram"
+example accepted check "$data/two_routines.theory" "$data/conv.diagram" tools/guide/conv.text
 [ "$failed" -eq 0 ] && echo "guide.sh: the examples print what docs/GUIDE.md says"
 exit "$failed"
