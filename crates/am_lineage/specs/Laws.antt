@@ -41,3 +41,7 @@ abbrev pub StepsAreOrdered : Type 0
 StepsAreOrdered =
     (sig : Signature) (ins : List SortId) (sources : Sources) (rows : List Row)
     → AreSteps sig ins sources [] rows → AreOrdered rows
+
+-- A row has one list of ancestors.
+abbrev pub AncestorsAreOne : Type 0
+AncestorsAreOne = (rows : List Row) (last : ℕ) (made other : List Row) → AreAncestors rows last made → AreAncestors rows last other → made ≡ other

@@ -1,0 +1,11 @@
+pub mod RenamedSorts
+pub mod Inputless
+pub mod SortedForms
+pub mod SortedStarts
+pub mod StartingRows
+pub mod InferredRows
+pub mod Derived
+pub mod LoggedRows
+pub mod ClosedEnds
+pub mod LastRows
+pub mod LogEnds

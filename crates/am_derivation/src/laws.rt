@@ -1,0 +1,23 @@
+//! Laws of what a search infers, as contracts of functions that do nothing.
+ghost use Rattle.am_derivation.specs.Laws.{EntriesAreCounted, HistoriesAreProofs, LogsAreProofs, LogsEndSo};
+
+/// The starting rows and all rows that a search infers, in order, are a proof.
+pub fn law_of_derivations()
+    ensures { HistoriesAreProofs }
+{}
+
+/// Where something was found or contradicts, the log is a proof.
+pub fn law_of_logs()
+    ensures { LogsAreProofs }
+{}
+
+/// Where something was found the log's last row has no literals, no variables and an answer; where axioms and givens
+/// contradict each other it has neither literals nor an answer.
+pub fn law_of_ends()
+    ensures { LogsEndSo }
+{}
+
+/// There is one entry for each inference.
+pub fn law_of_counts()
+    ensures { EntriesAreCounted }
+{}
