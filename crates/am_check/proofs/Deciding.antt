@@ -16,10 +16,10 @@ use Rattle.am_diagram.specs.declared.diagram.Diagram.{Diagram}
 use Rattle.am_diagram.specs.Steps.{IsProof}
 use Rattle.am_log.specs.Split.{IsSplit}
 use Rattle.am_log.specs.Text.{log_text}
-use Rattle.am_check.specs.Accepted.{EndsWith, Accepted as IsAccepted}
+use Rattle.am_check.specs.Accepted.{EndsWith, closing, closing_answer, final_answer, Accepted as IsAccepted}
 use Rattle.am_check.specs.FirstFault.{row_line, IsLog, IsProofOf, IsTextOf, IsFirstBad, HasBadRow, IsUnfinished, IsFaultOf, IsFirstFault}
 use Rattle.am_check.specs.Laws.{HasOneOutcome}
-use Rattle.am_check.specs.Phases.{of_step, closing, closing_answer, final_answer, Leaves, Stops, StopsAlways, StopsText, IsVerdict}
+use Rattle.am_check.specs.Phases.{of_step, Leaves, Stops, StopsAlways, StopsText, IsVerdict}
 use Rattle.am_check.specs.declared.reason.Reason.{Reason}
 use Rattle.am_check.specs.declared.reason.Reason.TheVariants as reason
 use Rattle.am_check.specs.declared.reason.Stop.{Stop}

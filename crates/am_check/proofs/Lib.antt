@@ -6,3 +6,4 @@ pub mod Outcomes
 pub mod Deciding
 pub mod Prefixes
 pub mod Units
+pub mod RowTests

@@ -1,6 +1,8 @@
 -- For private contracts: how far a check has come, and why it stops there.
-use Rattle.std.specs.Prelude.{◌≡◌, ◌+◌, ℕ, Option, Some, None, Ok, List, [], ◌∷◌, length, map, IsTrue}
-use Rattle.std.specs.List.{AllByRecursion}
+use Rattle.std.specs.Prelude.{◌≡◌, ◌+◌, ℕ, Bool, true, false, Option, Some, None, Ok, List, [], ◌∷◌, length, map, IsTrue}
+use Rattle.std.specs.List.{AllByRecursion, list_all}
+use Rattle.am_term.specs.declared.id.SortId.{SortId}
+use Rattle.am_term.specs.declared.signature.Signature.{Signature}
 use Rattle.am_term.specs.declared.term.Literal.{Literal}
 use Rattle.am_term.specs.declared.term.Term.{Term}
 use Rattle.am_clause.specs.declared.clause.Clause.{Clause}
@@ -48,18 +50,23 @@ pub record IsOrigin (t : Theory) (d : Diagram) (o : Origin) : Type 0 where
 abbrev pub AreSorted : Theory → Diagram → List Row → Type 0
 AreSorted t d rows = AllByRecursion (λ (r : Row). IsTrue (is_sorted_clause t.sig (sorts_in d.inputs) r.clause)) rows
 
--- the answer behind no literals
-abbrev pub closing : List Literal → Option (List Term) → Option (List Term)
-closing [] answer = answer
-closing (l ∷ ls) answer = None
+-- the same, tested
+abbrev pub are_sorted : Signature → List SortId → List Row → Bool
+are_sorted sig ins rows = list_all (λ (r : Row). is_sorted_clause sig ins r.clause) rows
 
-abbrev pub closing_answer : Option Clause → Option (List Term)
-closing_answer None = None
-closing_answer (Some c) = closing c.literals c.answer
+-- no literals, and no answer
+abbrev pub is_bare : List Literal → Option (List Term) → Bool
+is_bare [] None = true
+is_bare [] (Some ts) = false
+is_bare (l ∷ ls) answer = false
 
--- the answer of the last row, where that has no literals
-abbrev pub final_answer : List Row → Option (List Term)
-final_answer rows = closing_answer (clause_at rows (length rows))
+abbrev pub is_bare_clause : Option Clause → Bool
+is_bare_clause None = false
+is_bare_clause (Some c) = is_bare c.literals c.answer
+
+-- there is a last row, and it has no literals and no answer
+abbrev pub ends_bare : List Row → Bool
+ends_bare rows = is_bare_clause (clause_at rows (length rows))
 
 -- the first line of the group at this place
 abbrev pub line_of_group : List ℕ → ℕ → ℕ

@@ -11,8 +11,12 @@ mod laws;
 mod lines;
 mod proving;
 mod reason;
+mod refuting;
+mod sorting;
 mod starts;
 
 pub use checking::check;
 pub use laws::{law_of_acceptance, law_of_prefixes, law_of_refusal, law_of_refutation};
+pub use proving::last_answer;
 pub use reason::{Reason, Verdict};
+pub use refuting::{ends_empty, is_proof};

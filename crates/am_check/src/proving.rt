@@ -7,8 +7,9 @@ ghost use Rattle.am_diagram.specs.Facts.{WellFormed as WellDrawn};
 ghost use Rattle.am_diagram.specs.Listed.{sorts_in};
 ghost use Rattle.am_diagram.specs.Steps.{IsProof, sources};
 ghost use Rattle.am_log.specs.Text.{byte_limit};
+ghost use Rattle.am_check.specs.Accepted.{closing, final_answer};
 ghost use Rattle.am_check.specs.FirstFault.{IsFirstBad, IsLog, IsProofOf};
-ghost use Rattle.am_check.specs.Phases.{of_step, closing, final_answer, AreSorted, IsOrigin, StopsAlways};
+ghost use Rattle.am_check.specs.Phases.{of_step, AreSorted, IsOrigin, StopsAlways};
 
 use crate::lines::row_line;
 use crate::reason::{Reason, Stop};
@@ -73,7 +74,7 @@ fn logged(alloc: Global, theory: &Theory, diagram: &Diagram, proof: &[u8]) -> Re
 }
 
 /// The place, from 0, of the first row that is no step after those before it, and its first cause.
-fn first_bad(
+pub fn first_bad(
     alloc: Global,
     theory: &Theory,
     diagram: &Diagram,
@@ -113,8 +114,8 @@ fn row_fault(
     step_fault(alloc, &ctx, &starts, before, row)
 }
 
-/// The answer of the last row, where there is one without literals.
-fn last_answer(rows: &[Row]) -> Option<&[Term]>
+/// The answer of the last row, where there is one without literals. Takes no memory.
+pub fn last_answer(rows: &[Row]) -> Option<&[Term]>
     ensures { option_copied result ≡ final_answer rows.now }
 {
     match last_clause(rows) {
@@ -135,7 +136,8 @@ fn closing_answer(clause: &Clause) -> Option<&[Term]>
     }
 }
 
-fn last_clause(rows: &[Row]) -> Option<&Clause>
+/// The clause of the last row.
+pub fn last_clause(rows: &[Row]) -> Option<&Clause>
     ensures { option_copied result ≡ clause_at rows.now (length rows.now) }
 {
     if rows.is_empty() {

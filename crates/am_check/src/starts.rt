@@ -62,7 +62,8 @@ fn clauses(alloc: Global, formula: &Formula) -> Result<Items<Clause>, NoMemory>
     }
 }
 
-fn input_sorts(alloc: Global, diagram: &Diagram) -> Result<Items<SortId>, NoMemory>
+/// The sorts of the inputs, in order.
+pub fn input_sorts(alloc: Global, diagram: &Diagram) -> Result<Items<SortId>, NoMemory>
     ensures { IfOk result (λ sorts. sorts ≡ sorts_in diagram.now.inputs) }
 {
     let mut sorts = Items::new(alloc);
