@@ -1,34 +1,21 @@
 -- From what the steps come to to the answer of a command.
-use Rattle.std.proofs.Common.{◌≡◌, ◌≢◌, ◌<◌, ◌⊎◌, inl, inr, ℕ, ap, subst, sym, refl, Option, Some, None, Result, Ok, Err, List, [], length, is_some, true, true≢false}
+use Rattle.std.proofs.Common.{◌≡◌, inl, inr, ℕ, subst, sym, Option, Ok, List}
 use Rattle.std.proofs.lemmas.Grind.{common_steps}
-use Rattle.am_term.specs.declared.term.Term.{Term}
-use Rattle.am_outside.specs.Growth.{WhereTold}
 use Rattle.am_theory.specs.declared.theory.Theory.{Theory as TheoryValue}
-use Rattle.am_theory.specs.declared.fault.TheoryFault.{TheoryFault}
 use Rattle.am_theory.specs.Contents.{contents}
 use Rattle.am_theory.specs.Facts.{WellFormed as WellFormedTheory}
 use Rattle.am_theory.specs.Limits.{file_limit}
-use Rattle.am_theory.specs.Reading.{theory, no_memory as no_theory_memory}
-use Rattle.am_canon.specs.CanonicalText.{canonical_text}
+use Rattle.am_theory.specs.Reading.{theory}
 use Rattle.am_diagram.specs.declared.diagram.Diagram.{Diagram as DiagramValue}
-use Rattle.am_diagram.specs.declared.fault.DiagramFault.{DiagramFault}
-use Rattle.am_diagram.specs.Reading.{diagram, no_memory as no_diagram_memory}
+use Rattle.am_diagram.specs.Reading.{diagram}
 use Rattle.am_top.specs.declared.answer.Answer.{Answer}
-use Rattle.am_top.specs.declared.answer.Answer.TheVariants.{Text, Usage, Refused, Unread, NoMemory}
-use Rattle.am_top.specs.declared.answer.File.TheVariants.{Theory, Diagram, Text as TextFile}
-use Rattle.am_top.specs.declared.answer.Refusal.{Refusal}
-use Rattle.am_top.specs.declared.answer.Refusal.TheVariants as refusal
-use Rattle.am_top.specs.Answers.{Where, Refuses, AreBytes, NotLoaded, IsAnswerOf}
-use Rattle.am_top.specs.declared.words.Command.{Command}
-use Rattle.am_top.specs.Commands.{IsTheory, HasTheoryFault, IsDiagram, HasDiagramFault, HasAxiom, TheoryOf, DiagramOf, FilesOf, TextOf, Makes, Checks, Shows, Does, HasAnswer, IsUnitText}
-use Rattle.am_top.specs.Messages.{theory_message, diagram_message, not_built}
-use Rattle.am_fortran.specs.declared.unit.Unit.{Unit as Subroutine}
-use Rattle.am_fortran.specs.Text.{unit_text}
-use Rattle.am_plan.specs.Plan.{IsPlan}
-use Rattle.am_top.specs.Direct.{IsDirect}
-use Rattle.am_top.specs.DirectTests.{IsDirectBy}
+use Rattle.am_top.specs.declared.answer.File.TheVariants.{Text as TextFile}
+use Rattle.am_top.specs.Answers.{Then, AreBytes, NotLoaded, IsAnswerOf}
+use Rattle.am_search.specs.Plain.{Pick}
+use Rattle.am_demo.specs.Files.{theory_text, diagram_text}
+use Rattle.am_top.specs.Commands.{IsDiagram, HasDiagramFault, TheoryOf, DiagramOf, FilesOf, TextOf, Checks, Shows, Demonstrates}
 use Rattle.am_log.specs.Text.{byte_limit as text_limit}
-use Rattle.am_top.specs.Steps.{FoundTheory, FoundDiagram, FoundFiles, NoTheory, NoDiagram, NoFiles, FromDiagram, FromText, TheText, TellsTheoryFault, TellsDiagramFault}
+use Rattle.am_top.specs.Steps.{FoundTheory, FoundDiagram, FoundFiles, IsRead, IsDrawn, NoDiagram, NoFiles, FromDemo, FromText, TheText}
 use Rattle.am_top.proofs.Premises.{theories_well_formed, diagrams_well_formed}
 
 -- ---- one file
@@ -39,45 +26,9 @@ theory_found told bytes read t loaded same is = record { well = theories_well_fo
 pub diagram_found : (t : TheoryValue) (told : Option (List ℕ)) (bytes read : List ℕ) (d : DiagramValue) → WellFormedTheory t → AreBytes file_limit told bytes → read ≡ bytes → diagram t read ≡ Ok d → FoundDiagram t told d
 diagram_found t told bytes read d well loaded same is = record { well = diagrams_well_formed t read d well is; bytes = read; loaded = subst (AreBytes file_limit told) (sym same) loaded; read = is }
 
-module _ (told : Option (List ℕ)) (sure : Type 0) where
-  -- what could not be loaded is refused, whatever comes next
-  pub theory_not_loaded : (answer : Answer) → IsAnswerOf (NotLoaded Theory file_limit told sure) answer → NoTheory told sure answer
-  theory_not_loaded answer (inl none) = inl none
-  theory_not_loaded answer (inr not) = inr (inl not)
-
-  pub theory_fault : (bytes : List ℕ) (f : TheoryFault) (answer : Answer) → AreBytes file_limit told bytes → (f ≡ no_theory_memory) ⊎ (theory bytes ≡ Err f) → TellsTheoryFault f answer → NoTheory told sure answer
-  theory_fault bytes f (Text text) loaded is h = absurd h
-  theory_fault bytes f Usage loaded is h = absurd h
-  theory_fault bytes f (Refused r message) loaded (inl none) h = absurd (h.0 (ap (λ (x : TheoryFault). x.kind) none))
-  theory_fault bytes f (Refused r message) loaded (inr is) h = inr (inr (bytes, loaded, inl (f, is, (h.1, h.2))))
-  theory_fault bytes f (Unread g) loaded is h = absurd h
-  theory_fault bytes f NoMemory loaded is h = inl refl
-
-module _ (t : TheoryValue) (told : Option (List ℕ)) (sure : Type 0) where
-  pub diagram_not_loaded : (answer : Answer) → IsAnswerOf (NotLoaded Diagram file_limit told sure) answer → NoDiagram t told sure answer
-  diagram_not_loaded answer (inl none) = inl none
-  diagram_not_loaded answer (inr not) = inr (inl not)
-
-  pub diagram_fault : (bytes : List ℕ) (f : DiagramFault) (answer : Answer) → AreBytes file_limit told bytes → (f ≡ no_diagram_memory) ⊎ (diagram t bytes ≡ Err f) → TellsDiagramFault f answer → NoDiagram t told sure answer
-  diagram_fault bytes f (Text text) loaded is h = absurd h
-  diagram_fault bytes f Usage loaded is h = absurd h
-  diagram_fault bytes f (Refused r message) loaded (inl none) h = absurd (h.0 (ap (λ (x : DiagramFault). x.kind) none))
-  diagram_fault bytes f (Refused r message) loaded (inr is) h = inr (inr (bytes, loaded, inl (f, is, (h.1, h.2))))
-  diagram_fault bytes f (Unread g) loaded is h = absurd h
-  diagram_fault bytes f NoMemory loaded is h = inl refl
-
 -- ---- steps in a chain
 
 module _ (told : Option (List ℕ)) (sure : Type 0) (next : TheoryValue → Answer → Type 0) where
-  theory_refused : (answer : Answer) → TheoryOf told sure (λ t x. ⊥) answer → TheoryOf told sure next answer
-  theory_refused answer (inl not) = inl not
-  theory_refused answer (inr (bytes, loaded, inl fault)) = inr (bytes, loaded, inl fault)
-  theory_refused answer (inr (bytes, loaded, inr (t, is, none))) = absurd none
-
-  no_theory : (answer : Answer) → NoTheory told sure answer → IsAnswerOf (TheoryOf told sure next) answer
-  no_theory answer (inl none) = inl none
-  no_theory answer (inr not) = inr (theory_refused answer not)
-
   with_theory : (t : TheoryValue) (answer : Answer) → FoundTheory told t → next t answer → TheoryOf told sure next answer
   with_theory t answer found after = inr (found.bytes, found.loaded, inr (t, found.read, after))
 
@@ -96,37 +47,6 @@ module _ (t : TheoryValue) (told : Option (List ℕ)) (sure later : Type 0) (nex
   with_diagram : (d : DiagramValue) (answer : Answer) → FoundDiagram t told d → next d answer → DiagramOf t told sure next answer
   with_diagram d answer found after = inr (found.bytes, found.loaded, inr (d, found.read, after))
 
--- ---- commands
-
-module _ (told : List ℕ → Option (List ℕ)) (sure : List ℕ → Type 0) (first second : List ℕ) where
-  -- what comes behind the theory
-  abbrev pub BehindTheory : TheoryValue → Answer → Type 0
-  BehindTheory t = Where (t.axioms ≡ []) (HasAxiom t) (DiagramOf t (told second) (sure second) (FromDiagram t))
-
-  pub make_no_theory : (answer : Answer) → NoTheory (told first) (sure first) answer → IsAnswerOf (Makes told sure first second) answer
-  make_no_theory answer not = no_theory (told first) (sure first) BehindTheory answer not
-
-  pub make_axiom : (t : TheoryValue) (answer : Answer) → FoundTheory (told first) t → HasAxiom t answer → Makes told sure first second answer
-  make_axiom t answer found not = with_theory (told first) (sure first) BehindTheory t answer found (inl not)
-
-  module _ (t : TheoryValue) (found : FoundTheory (told first) t) (plain : t.axioms ≡ []) where
-    made_later : (answer : Answer) → IsAnswerOf (DiagramOf t (told second) (sure second) (FromDiagram t)) answer → IsAnswerOf (Makes told sure first second) answer
-    made_later answer (inl none) = inl none
-    made_later answer (inr is) = let behind : BehindTheory t answer = inr (plain, is) in inr (with_theory (told first) (sure first) BehindTheory t answer found behind)
-
-    pub make_no_diagram : (later : Type 0) (then_told : Option (List ℕ)) (answer : Answer) → (sure second → later) → then_told ≡ told second → NoDiagram t then_told later answer → IsAnswerOf (Makes told sure first second) answer
-    make_no_diagram later then_told answer stays same not =
-        made_later answer (no_diagram t (told second) (sure second) later (FromDiagram t) stays answer (subst (λ (o : Option (List ℕ)). NoDiagram t o later answer) same not))
-
-    pub make_from_diagram : (d : DiagramValue) (then_told : Option (List ℕ)) (answer : Answer) → then_told ≡ told second → FoundDiagram t then_told d → FromDiagram t d answer → Makes told sure first second answer
-    make_from_diagram d then_told answer same there is =
-        let behind : BehindTheory t answer = inr (plain, with_diagram t (told second) (sure second) (sure second) (FromDiagram t) d answer (subst (λ (o : Option (List ℕ)). FoundDiagram t o d) same there) is) in
-        with_theory (told first) (sure first) BehindTheory t answer found behind
-
-    pub make_answer : (d : DiagramValue) (then_told : Option (List ℕ)) (answer : Answer) → then_told ≡ told second → FoundDiagram t then_told d → IsAnswerOf (FromDiagram t d) answer → IsAnswerOf (Makes told sure first second) answer
-    make_answer d then_told answer same there (inl none) = inl none
-    make_answer d then_told answer same there (inr is) = inr (make_from_diagram d then_told answer same there is)
-
 -- ---- two files, and a third
 
 -- what needs no file behind a theory and a diagram
@@ -134,9 +54,6 @@ abbrev NoMore : TheoryValue → DiagramValue → Answer → Type 0
 NoMore t d answer = ⊥
 
 module _ (told : List ℕ → Option (List ℕ)) (sure : List ℕ → Type 0) (first second : List ℕ) where
-  pub files_no_theory : (answer : Answer) → NoTheory (told first) (sure first) answer → NoFiles told sure first second answer
-  files_no_theory answer not = no_theory (told first) (sure first) (λ t. DiagramOf t (told second) (sure second) (NoMore t)) answer not
-
   module _ (t : TheoryValue) (found : FoundTheory (told first) t) where
     files_later : (answer : Answer) → IsAnswerOf (DiagramOf t (told second) (sure second) (NoMore t)) answer → NoFiles told sure first second answer
     files_later answer (inl none) = inl none
@@ -204,31 +121,35 @@ module _ (told : List ℕ → Option (List ℕ)) (sure : List ℕ → Type 0) (f
       check_behind answer (inl none) = inl none
       check_behind answer (inr is) = inr (check_printed answer is)
 
--- the text of the unit of a direct diagram
-pub unit_printed : (t : TheoryValue) (d : DiagramValue) (o : Option (List Term)) (answer terms : List Term) (u : Subroutine) (text : List ℕ) → IsDirectBy t d o → o ≡ Some answer → terms ≡ answer → IsPlan t d terms u → text ≡ unit_text u
-    → IsDirect t d answer × IsUnitText t d answer text
-unit_printed t d o answer terms u text direct is same planned printed = (subst (IsDirectBy t d) is direct, (u, subst (λ (xs : List Term). IsPlan t d xs u) same planned, printed))
+-- ---- demonstrations
+
+module _ (k : ℕ) (pick : Pick) where
+  -- what comes behind the theory of a demonstration
+  abbrev DemoBehind : TheoryValue → Answer → Type 0
+  DemoBehind t = Then (IsDiagram t (diagram_text k)) (HasDiagramFault t (diagram_text k)) (FromDemo k pick t)
+
+  module _ (t : TheoryValue) (read : IsRead (theory_text k) t) where
+    pub demo_no_diagram : (answer : Answer) → IsAnswerOf (HasDiagramFault t (diagram_text k)) answer → IsAnswerOf (Demonstrates k pick) answer
+    demo_no_diagram answer (inl none) = inl none
+    demo_no_diagram answer (inr fault) = let behind : DemoBehind t answer = inl fault in inr (inr (t, read.read, behind))
+
+    module _ (d : DiagramValue) (drawn : IsDrawn t (diagram_text k) d) where
+      pub demo_printed : (answer : Answer) → FromDemo k pick t d answer → Demonstrates k pick answer
+      demo_printed answer is = let behind : DemoBehind t answer = inr (d, drawn.read, is) in inr (t, read.read, behind)
+
+      pub demo_behind : (answer : Answer) → IsAnswerOf (FromDemo k pick t d) answer → IsAnswerOf (Demonstrates k pick) answer
+      demo_behind answer (inl none) = inl none
+      demo_behind answer (inr is) = inr (demo_printed answer is)
+
+pub theory_read : (bytes read : List ℕ) (t : TheoryValue) → read ≡ bytes → theory read ≡ Ok (contents t) → IsRead bytes t
+theory_read bytes read t same is = subst (λ (b : List ℕ). IsRead b t) same (record { well = theories_well_formed read t is; read = is })
+
+pub diagram_read : (t : TheoryValue) (bytes read : List ℕ) (d : DiagramValue) → WellFormedTheory t → read ≡ bytes → diagram t read ≡ Ok d → IsDrawn t bytes d
+diagram_read t bytes read d well same is = subst (λ (b : List ℕ). IsDrawn t b d) same (record { well = diagrams_well_formed t read d well is; read = is })
 
 module _ (told : List ℕ → Option (List ℕ)) (sure : List ℕ → Type 0) (first : List ℕ) where
-  pub show_no_theory : (answer : Answer) → NoTheory (told first) (sure first) answer → IsAnswerOf (Shows told sure first) answer
-  show_no_theory answer not = no_theory (told first) (sure first) TheText answer not
-
   pub show_text : (t : TheoryValue) (answer : Answer) → FoundTheory (told first) t → TheText t answer → Shows told sure first answer
   show_text t answer found is = with_theory (told first) (sure first) TheText t answer found is
-
--- ---- words
-
-module _ (told : List ℕ → Option (List ℕ)) (sure : List ℕ → Type 0) (command : Option Command) where
-  pub no_reading : command ≡ None → HasAnswer told sure command Usage
-  no_reading none = subst (λ (c : Option Command). HasAnswer told sure c Usage) (sym none) refl
-
-  -- where memory ran out for words that have a reading
-  pub memory_answer : (o : Option Command) → is_some o ≡ true → HasAnswer told sure o NoMemory
-  memory_answer None is = absurd (true≢false (sym is))
-  memory_answer (Some c) is = inl refl
-
-  pub answered : (c : Command) (answer : Answer) → command ≡ Some c → IsAnswerOf (Does told sure c) answer → HasAnswer told sure command answer
-  answered c answer is does = subst (λ (o : Option Command). HasAnswer told sure o answer) (sym is) does
 
 pub ruleset loading = (common_steps)
 

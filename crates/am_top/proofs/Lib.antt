@@ -1,8 +1,11 @@
-pub mod Commands
-pub mod DirectRight
-pub mod Directness
+pub mod Cases
 pub mod Chains
+pub mod Dispatch
+pub mod Ends
 pub mod Growth
+pub mod Histories
 pub mod Premises
+pub mod Runs
 pub mod SameContents
+pub mod Statuses
 pub mod TooLong

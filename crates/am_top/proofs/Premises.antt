@@ -3,14 +3,9 @@ use Rattle.am_theory.specs.Laws.{ReadTheoriesAreWellFormed}
 use Rattle.am_theory.proofs.WellFormedRead.{read_well_formed}
 use Rattle.am_diagram.specs.Laws.{ReadDiagramsAreWellFormed}
 use Rattle.am_diagram.proofs.DiagramWellFormed.{read_well_formed as diagram_well_formed}
-use Rattle.am_plan.specs.Laws.{PlanGivesAnswer}
-use Rattle.am_plan.proofs.AnswerGiven.{plan-gives}
 
 pub theories_well_formed : ReadTheoriesAreWellFormed
 theories_well_formed = read_well_formed
 
 pub diagrams_well_formed : ReadDiagramsAreWellFormed
 diagrams_well_formed t bytes d h e = diagram_well_formed t bytes d e
-
-pub plans_give_answers : PlanGivesAnswer
-plans_give_answers = plan-gives

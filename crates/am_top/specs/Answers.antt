@@ -15,8 +15,11 @@ use Rattle.am_top.specs.Messages.{usage, cannot_read, cannot_write, no_memory, l
 
 abbrev pub status_at : Refusal → Status
 status_at refusal.File = status.File
-status_at refusal.NotBuilt = status.NotBuilt
 status_at refusal.Text = status.Refused
+status_at refusal.Spent = status.Spent
+status_at refusal.Exhausted = status.Exhausted
+status_at refusal.Contradiction = status.Contradiction
+status_at refusal.Long = status.Long
 
 -- the status of an answer
 abbrev pub status_of : Answer → Status

@@ -15,4 +15,3 @@ code_of status.Write = 7
 code_of status.NoMemory = 8
 code_of status.Contradiction = 9
 code_of status.Long = 10
-code_of status.NotBuilt = 11

@@ -2,8 +2,6 @@ pub mod Answers
 pub mod Clauses
 pub mod Codes
 pub mod Commands
-pub mod Direct
-pub mod DirectTests
 pub mod Messages
 pub mod Steps
 pub mod Words

@@ -124,9 +124,21 @@ theory_message f = at_byte file.Theory f.place (theory_words f.kind)
 unfoldable pub diagram_message : DiagramFault → List ℕ
 diagram_message f = at_byte file.Diagram f.place (diagram_words f.kind)
 
--- `amphion: FILE: not built yet`
-abbrev pub not_built : File → List ℕ
-not_built f = codes "amphion: " ++ word_of f ++ codes ": not built yet" ++ 10 ∷ []
+-- `amphion: budget of N inferences used up`
+abbrev pub spent_message : ℕ → List ℕ
+spent_message budget = codes "amphion: budget of " ++ decimal budget ++ codes " inferences used up" ++ 10 ∷ []
+
+-- `amphion: nothing left after K inferences`
+abbrev pub exhausted_message : ℕ → List ℕ
+exhausted_message made = codes "amphion: nothing left after " ++ decimal made ++ codes " inferences" ++ 10 ∷ []
+
+-- `amphion: givens and axioms contradict after K inferences`
+abbrev pub contradiction_message : ℕ → List ℕ
+contradiction_message made = codes "amphion: givens and axioms contradict after " ++ decimal made ++ codes " inferences" ++ 10 ∷ []
+
+-- `amphion: printed text longer than LIMIT bytes`
+abbrev pub long_message : ℕ → List ℕ
+long_message limit = codes "amphion: printed text longer than " ++ decimal limit ++ codes " bytes" ++ 10 ∷ []
 
 -- `amphion: refused at line L: REASON`
 unfoldable pub refused_message : ℕ → Reason → List ℕ
@@ -151,6 +163,7 @@ accepted_text = codes "accepted" ++ 10 ∷ []
 -- how the program is called
 abbrev pub usage : List ℕ
 usage =
-    codes "usage: amphion make THEORY DIAGRAM" ++ 10
+    codes "usage: amphion make THEORY DIAGRAM [--budget N] [--weight W] [--choose weight|age|mixed]" ++ 10
     ∷ codes "       amphion check THEORY DIAGRAM TEXT" ++ 10
-    ∷ codes "       amphion theory THEORY" ++ 10 ∷ []
+    ∷ codes "       amphion theory THEORY" ++ 10
+    ∷ codes "       amphion demo K" ++ 10 ∷ []

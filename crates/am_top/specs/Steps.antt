@@ -1,6 +1,6 @@
 -- What the steps towards an answer come to: forms for private contracts.
-use Rattle.std.specs.Prelude.{◌≡◌, ◌≢◌, ℕ, Option, List}
-use Rattle.am_term.specs.declared.term.Term.{Term}
+use Rattle.std.specs.Prelude.{◌≡◌, ◌≢◌, ℕ, Option, List, length}
+use Rattle.am_clause.specs.declared.row.Log.{Log}
 use Rattle.am_theory.specs.declared.theory.Theory.{Theory}
 use Rattle.am_theory.specs.declared.fault.TheoryFault.{TheoryFault}
 use Rattle.am_theory.specs.declared.fault.TheoryKind.TheVariants as theory_kind
@@ -16,8 +16,12 @@ use Rattle.am_top.specs.declared.answer.Answer.TheVariants.{Text, Usage, Refused
 use Rattle.am_top.specs.declared.answer.Refusal.TheVariants as refusal
 use Rattle.am_check.specs.Accepted.{Accepted}
 use Rattle.am_top.specs.Answers.{Then, Where, Prints, AreBytes, IsAnswerOf}
-use Rattle.am_top.specs.Commands.{IsTheory, IsDiagram, TheoryOf, DiagramOf, FilesOf, HasTextFault, IsNotDirect, IsUnitText}
-use Rattle.am_top.specs.Direct.{IsDirect}
+use Rattle.am_search.specs.Plain.{Pick}
+use Rattle.am_search.specs.Searched.{IsSearched}
+use Rattle.am_search.specs.declared.fate.Entry.{Entry}
+use Rattle.am_search.specs.declared.outcome.Limits.{Limits}
+use Rattle.am_search.specs.declared.outcome.Outcome.TheVariants.{Found}
+use Rattle.am_top.specs.Commands.{IsTheory, IsDiagram, TheoryOf, DiagramOf, FilesOf, SearchOf, ProductOf, IsSummary, HasTextFault, demo_limits}
 use Rattle.am_top.specs.Messages.{theory_message, diagram_message, accepted_text}
 
 -- the theory of a file's bytes
@@ -32,6 +36,15 @@ pub record FoundDiagram (t : Theory) (told : Option (List ℕ)) (d : Diagram) : 
   pub well : WellFormed t d
   pub bytes : List ℕ
   pub loaded : AreBytes file_limit told bytes
+  pub read : IsDiagram t bytes d
+
+-- the bytes are a theory, and over it a diagram
+pub record IsRead (bytes : List ℕ) (t : Theory) : Type 0 where
+  pub well : WellFormedTheory t
+  pub read : IsTheory bytes t
+
+pub record IsDrawn (t : Theory) (bytes : List ℕ) (d : Diagram) : Type 0 where
+  pub well : WellFormed t d
   pub read : IsDiagram t bytes d
 
 -- the answer where no theory was found: that of the step with nothing behind it
@@ -51,9 +64,24 @@ pub record FoundFiles (told : List ℕ → Option (List ℕ)) (first second : Li
 abbrev pub NoFiles : (List ℕ → Option (List ℕ)) → (List ℕ → Type 0) → List ℕ → List ℕ → Answer → Type 0
 NoFiles told sure first second = IsAnswerOf (FilesOf told sure first second (λ t d answer. ⊥))
 
+-- a log that a search found, after so many inferences
+pub record FoundLog (t : Theory) (d : Diagram) (limits : Limits) (pick : Pick) (log : Log) (made : ℕ) : Type 0 where
+  pub entries : List Entry
+  pub choices : List ℕ
+  pub searched : IsSearched t d limits pick (Found log entries choices)
+  pub counts : made ≡ length entries
+
+-- the answer where a search found none
+abbrev pub NoLog : Theory → Diagram → Limits → Pick → Answer → Type 0
+NoLog t d limits pick = IsAnswerOf (SearchOf t d limits pick (λ log made answer. ⊥))
+
 -- the rest of `make` behind the diagram
-abbrev pub FromDiagram : Theory → Diagram → Answer → Type 0
-FromDiagram t d = Then (IsDirect t d) (IsNotDirect t d) (λ terms. Prints (IsUnitText t d terms))
+abbrev pub FromDiagram : Limits → Pick → Theory → Diagram → Answer → Type 0
+FromDiagram limits pick t d = SearchOf t d limits pick (λ log made. ProductOf t d log)
+
+-- the rest of `demo` behind the diagram
+abbrev pub FromDemo : ℕ → Pick → Theory → Diagram → Answer → Type 0
+FromDemo k pick t d = SearchOf t d demo_limits pick (λ log made. Prints (IsSummary t k log made))
 
 -- the rest of `check` behind the text
 abbrev pub FromText : Theory → Diagram → List ℕ → Answer → Type 0

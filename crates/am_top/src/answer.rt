@@ -16,10 +16,16 @@ pub enum File {
 pub enum Refusal {
     /// A file is too long or has a fault.
     File,
-    /// A file is of a kind that isn't built yet.
-    NotBuilt,
     /// A text isn't accepted.
     Text,
+    /// A search used its budget up.
+    Spent,
+    /// A search has nothing left to try.
+    Exhausted,
+    /// Givens and axioms contradict each other.
+    Contradiction,
+    /// The text to print is too long.
+    Long,
 }
 
 /// What words and files come to, before anything is written: the text to print, or why there is none.

@@ -1,6 +1,6 @@
 ghost use Rattle.std.specs.Prelude.{◌≡◌, ◌++◌, codes, IfOk, OnOk};
 ghost use Rattle.std.specs.Fmt.{decimal};
-ghost use Rattle.am_top.specs.Messages.{text_words as words_of_text, theory_words as words_of_theory, diagram_words as words_of_diagram, word_of as word_of_file, at_byte as message_at_byte, longer as message_of_length, theory_message as message_of_theory, diagram_message as message_of_diagram, not_built as message_of_not_built, refused_message as message_of_refusal, accepted_text as text_of_acceptance, reason_words as words_of_reason, log_words as words_of_log, unit_words as words_of_unit, exec_words as words_of_exec};
+ghost use Rattle.am_top.specs.Messages.{text_words as words_of_text, theory_words as words_of_theory, diagram_words as words_of_diagram, word_of as word_of_file, at_byte as message_at_byte, longer as message_of_length, theory_message as message_of_theory, diagram_message as message_of_diagram, spent_message as message_of_spent, exhausted_message as message_of_exhausted, contradiction_message as message_of_contradiction, long_message as message_of_long, refused_message as message_of_refusal, accepted_text as text_of_acceptance, reason_words as words_of_reason, log_words as words_of_log, unit_words as words_of_unit, exec_words as words_of_exec};
 
 use crate::answer::File;
 use am_check::Reason;
@@ -49,12 +49,44 @@ pub fn accepted_text(alloc: Global) -> Result<Vec<u8>, NoMemory>
     Ok(text)
 }
 
-/// What is said of a file of a kind that isn't built yet.
-pub fn not_built(alloc: Global, file: File) -> Result<Vec<u8>, NoMemory>
-    ensures { IfOk result (λ m. m.items ≡ message_of_not_built file) }
+/// What is said of a search that used its budget up.
+pub fn spent_message(alloc: Global, budget: u32) -> Result<Vec<u8>, NoMemory>
+    ensures { IfOk result (λ m. m.items ≡ message_of_spent budget) }
 {
-    let mut message = started(alloc, file)?;
-    message.extend_from_slice(b": not built yet\n")?;
+    let mut message = Vec::from_slice(alloc, b"amphion: budget of ")?;
+    message.extend_from_slice(budget.to_string(alloc)?.as_bytes())?;
+    message.extend_from_slice(b" inferences used up")?;
+    message.extend_from_slice(b"\n")?;
+    Ok(message)
+}
+
+/// What is said of a search that has nothing left to try, after so many inferences.
+pub fn exhausted_message(alloc: Global, made: usize) -> Result<Vec<u8>, NoMemory>
+    ensures { IfOk result (λ m. m.items ≡ message_of_exhausted made) }
+{
+    let mut message = Vec::from_slice(alloc, b"amphion: nothing left after ")?;
+    message.extend_from_slice(made.to_string(alloc)?.as_bytes())?;
+    message.extend_from_slice(b" inferences\n")?;
+    Ok(message)
+}
+
+/// What is said where givens and axioms contradict each other, after so many inferences.
+pub fn contradiction_message(alloc: Global, made: usize) -> Result<Vec<u8>, NoMemory>
+    ensures { IfOk result (λ m. m.items ≡ message_of_contradiction made) }
+{
+    let mut message = Vec::from_slice(alloc, b"amphion: givens and axioms contradict after ")?;
+    message.extend_from_slice(made.to_string(alloc)?.as_bytes())?;
+    message.extend_from_slice(b" inferences\n")?;
+    Ok(message)
+}
+
+/// What is said of a text that is longer than may be printed.
+pub fn long_message(alloc: Global, limit: usize) -> Result<Vec<u8>, NoMemory>
+    ensures { IfOk result (λ m. m.items ≡ message_of_long limit) }
+{
+    let mut message = Vec::from_slice(alloc, b"amphion: printed text longer than ")?;
+    message.extend_from_slice(limit.to_string(alloc)?.as_bytes())?;
+    message.extend_from_slice(b" bytes\n")?;
     Ok(message)
 }
 

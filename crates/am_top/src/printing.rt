@@ -24,7 +24,7 @@ pub fn print<O: Sink, E: Sink>(out: &mut O, err: &mut E, answer: &Answer) -> Sta
         Answer::Text(text) => print_text(out, err, text.as_slice()),
         Answer::Usage => refuse(
             err,
-            b"usage: amphion make THEORY DIAGRAM\n       amphion check THEORY DIAGRAM TEXT\n       amphion theory THEORY\n",
+            b"usage: amphion make THEORY DIAGRAM [--budget N] [--weight W] [--choose weight|age|mixed]\n       amphion check THEORY DIAGRAM TEXT\n       amphion theory THEORY\n       amphion demo K\n",
             Status::Usage,
         ),
         Answer::Refused(refusal, message) => refuse(err, message.as_slice(), status_at(*refusal)),
@@ -40,8 +40,11 @@ fn status_at(refusal: Refusal) -> Status
 {
     match refusal {
         Refusal::File => Status::File,
-        Refusal::NotBuilt => Status::NotBuilt,
         Refusal::Text => Status::Refused,
+        Refusal::Spent => Status::Spent,
+        Refusal::Exhausted => Status::Exhausted,
+        Refusal::Contradiction => Status::Contradiction,
+        Refusal::Long => Status::Long,
     }
 }
 

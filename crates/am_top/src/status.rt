@@ -26,12 +26,10 @@ pub enum Status {
     Contradiction,
     /// The text to print is too long.
     Long,
-    /// A file is of a kind that isn't built yet.
-    NotBuilt,
 }
 
 impl Status {
-    /// The exit status, from 0 to 11. Takes no memory.
+    /// The exit status, from 0 to 10. Takes no memory.
     pub fn code(&self) -> u8
         ensures { result ≡ code_of self.now }
     {
@@ -47,7 +45,6 @@ impl Status {
             Status::NoMemory => 8,
             Status::Contradiction => 9,
             Status::Long => 10,
-            Status::NotBuilt => 11,
         }
     }
 }

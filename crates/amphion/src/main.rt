@@ -1,10 +1,12 @@
-//! The program `amphion`: it hands its words, the file system, its two streams and an interpretation
+//! The program `amphion`: it hands its words, the file system, its two streams, three choosers and an interpretation
 //! to `run`, and ends with the status as its exit code.
 //!
 //! What a text that it prints means is said by the contract of `am_top::run`.
 #![tactic(auto)]
 
-use am_outside::{Folder, Put, Sink, StdErr, StdOut};
+use am_agenda::{ByAge, ByWeight, Chooser, Mixed};
+use am_outside::{Folder, Library, Put, Sink, StdErr, StdOut};
+use am_term::NoMemory;
 use am_top::{Status, run};
 use am_world::TrivialWorld;
 use std::alloc::{AllocGlobal, Global};
@@ -18,27 +20,44 @@ fn main(rt: HostRuntime) -> ExitCode {
     let words = match words_of(&rt, alloc) {
         Ok(words) => words,
         Err(error) => match error.kind() {
-            io::ErrorKind::OutOfMemory => {
-                let status = match err.put(b"amphion: no memory\n") {
-                    Put::Done => Status::NoMemory,
-                    Put::Failed => Status::Write,
-                };
-                return ExitCode::from(status.code());
-            }
+            io::ErrorKind::OutOfMemory => return give_up(&mut err),
             // A word that is no UTF-8 has no reading, and no more have no words.
             _ => Vec::new(alloc),
         },
     };
     let mut library = Folder::new(&rt);
     let mut out = StdOut::new(rt.stdout());
-    let status = run(
-        alloc,
-        words.as_slice(),
-        &mut library,
-        &mut out,
-        &mut err,
-        &TrivialWorld,
-    );
+    match carry_out(alloc, words.as_slice(), &mut library, &mut out, &mut err) {
+        Ok(status) => ExitCode::from(status.code()),
+        Err(NoMemory) => give_up(&mut err),
+    }
+}
+
+// Carries the words out, by the choosers of `--choose weight`, `age` and `mixed`, in this order.
+fn carry_out<L: Library, O: Sink, E: Sink>(
+    alloc: Global,
+    words: &[String],
+    library: &mut L,
+    out: &mut O,
+    err: &mut E,
+) -> Result<Status, NoMemory> {
+    let by_weight: Box<dyn Chooser> = Box::new(alloc, ByWeight::new())?;
+    let by_age: Box<dyn Chooser> = Box::new(alloc, ByAge::new())?;
+    let mixed: Box<dyn Chooser> = Box::new(alloc, Mixed::new())?;
+    let mut choosers = Vec::new(alloc);
+    choosers.push(by_weight)?;
+    choosers.push(by_age)?;
+    choosers.push(mixed)?;
+    let status = run(alloc, words, library, out, err, choosers, &TrivialWorld);
+    Ok(status)
+}
+
+// Says that no memory is left. The exit code is that of this, or that it couldn't be said.
+fn give_up<E: Sink>(err: &mut E) -> ExitCode {
+    let status = match err.put(b"amphion: no memory\n") {
+        Put::Done => Status::NoMemory,
+        Put::Failed => Status::Write,
+    };
     ExitCode::from(status.code())
 }
 
