@@ -1,6 +1,7 @@
 #!/bin/bash
 # Outside the gate: makes a theory file of 4,096 symbols, 2,000 axioms and a megabyte, files of one axiom far
-# over a limit or with one literal very often, and a diagram whose twelve terms weigh as much as a goal may,
+# over a limit or with one literal very often, a diagram whose twelve terms weigh as much as a goal may, searches that use a
+# budget up, a chain of wide terms, demonstrations, and texts of many rows and of many calls,
 # and shows how long the built program takes over them.
 # Run it from anywhere; it takes the program that `rt run` built in crates/amphion.
 cd "$(dirname "$0")/.." || exit 1
@@ -79,3 +80,84 @@ BEGIN {
 echo "diagram: $(grep -c '^(require' "$folder/diagram") requirements"
 time "$program" make "$folder/plain" "$folder/diagram" > "$folder/unit"
 echo "unit: $(wc -l < "$folder/unit") lines"
+
+# ---- searches
+
+# runs words, and tells the status and the last line of what it said
+timed() {
+    echo "$*"
+    time { "$program" "$@" > "$folder/text" 2> "$folder/said"; echo "status $?: $(tail -q -n 1 "$folder/said" "$folder/text" | grep . | tail -n 1)"; }
+}
+data=crates/amphion/data
+timed make $data/planets.theory $data/nearsc.diagram
+
+# Two rules that take a number of steps back: p holds where it holds of f, or of h. Each row has two followers.
+cat > "$folder/steps" << 'END'
+(theory 1)
+(sort g double)
+(relation p (g))
+(function f (g) g)
+(function h (g) g)
+(axiom (all ((x g)) (=> (p (f x)) (p x))))
+(axiom (all ((x g)) (=> (p (h x)) (p x))))
+END
+printf '(diagram Q)\n(input A g)\n(output X g)\n(require (p X))\n' > "$folder/start"
+for budget in 1000 5000 10000; do
+    timed make "$folder/steps" "$folder/start" --budget $budget
+done
+
+# Demonstrations: each has as many axioms as its size, and one inference more.
+for size in 50 100 200 300; do
+    timed demo $size
+    if command -v valgrind > /dev/null; then
+        valgrind --tool=callgrind --callgrind-out-file=/dev/null "$program" demo $size 2>&1 | grep -o 'Collected : [0-9]*'
+    fi
+done
+
+# A chain of 1,900 rewrites of a goal whose terms are wide: the text would be longer than may be printed.
+awk 'function wide(x, i, s) { s = "(wide"; for (i = 1; i <= 12; i++) s = s " " x; return s ")" }
+BEGIN {
+    leaf = "leaffffffffffffffffffffffffffff"
+    theory = ARGV[1]; diagram = ARGV[2]; ARGC = 1
+    print "(theory 1)\n(sort q integer)\n(literal zero q 0)\n(literal " leaf " q 1)" > theory
+    print "(routine WIDE (q q q q q q q q q q q q) (wide q))\n(routine TOP (q q q) (top q))" > theory
+    for (i = 1; i <= 1900; i++) print "(function k" i " () q)" > theory
+    print "(axiom (= k1 zero))" > theory
+    for (i = 2; i <= 1900; i++) print "(axiom (= k" i " k" i - 1 "))" > theory
+    b = wide(wide(leaf))
+    print "(diagram WIDEN)\n(output Y q)\n(require (= Y (top k1900 " b " " b ")))" > diagram
+}' "$folder/chain" "$folder/widen"
+timed make "$folder/chain" "$folder/widen" --weight 400
+
+# ---- texts of 16 megabytes
+
+# The goal as a row 250,000 times, and then CONV's last row and its unit.
+awk 'BEGIN {
+    print "C (proof 1)"
+    for (i = 1; i <= 250000; i++) print "C (" i " (goal) (or (not (= et?0 (utc2et U)))) (answer et?0))"
+    print "C (250001 (reflex 250000 1 (with (utc2et U))) (or) (answer (utc2et U)))"
+}' > "$folder/rows"
+tail -n 5 tools/guide/conv.text >> "$folder/rows"
+echo "text: $(wc -c < "$folder/rows") bytes"
+timed check $data/two_routines.theory $data/conv.diagram "$folder/rows"
+
+# A unit of 7,200 calls, each of a routine with 12 outputs, so 86,400 locals.
+cat > "$folder/spread" << 'END'
+(theory 1)
+(sort et double)
+(routine SPREAD (et et et et et et) (s01 et) (s02 et) (s03 et) (s04 et) (s05 et) (s06 et) (s07 et) (s08 et) (s09 et) (s10 et) (s11 et) (s12 et))
+END
+printf '(diagram MANY)\n(input A et)\n(output E et)\n(require (= E A))\n' > "$folder/many"
+awk 'BEGIN {
+    print "C (proof 1)\nC (1 (goal) (or (not (= et?0 A))) (answer et?0))\nC (2 (reflex 1 1 (with A)) (or) (answer A))"
+    print "      SUBROUTINE MANY(A, E)\n      DOUBLE PRECISION A\n      DOUBLE PRECISION E"
+    for (i = 1; i <= 86400; i++) printf "      DOUBLE PRECISION T%05d\n", i
+    for (i = 0; i < 7200; i++) {
+        print "      CALL SPREAD("
+        for (k = 1; k <= 6; k++) print "     . " (i == 0 ? "A" : sprintf("T%05d", (i * k) % 12 + 1)) ","
+        for (k = 1; k <= 12; k++) printf "     . T%05d%s\n", 12 * i + k, (k < 12 ? "," : ")")
+    }
+    print "      E = A\n      END"
+}' > "$folder/calls"
+echo "text: $(wc -c < "$folder/calls") bytes"
+timed check "$folder/spread" "$folder/many" "$folder/calls"

@@ -23,6 +23,7 @@ example() {
 }
 
 example lonlat.f make "$data/directions.theory" "$data/lonlat.diagram"
+example nearsc.f make "$data/planets.theory" "$data/nearsc.diagram"
 example accepted check "$data/two_routines.theory" "$data/conv.diagram" tools/guide/conv.text
 [ "$failed" -eq 0 ] && echo "guide.sh: the examples print what docs/GUIDE.md says"
 exit "$failed"
