@@ -1,11 +1,12 @@
-//! The calls.
+//! The calls: of rules, of rewriting and of dropping.
 
 use crate::Done;
+use crate::inferring::{infer, is_rule};
 use crate::reader::Reader;
 use crate::signature::INS;
 use crate::spelling::{members, number, word};
-use crate::writer::{push_clause, push_terms};
-use am_clause::{Clause, Made, Side};
+use crate::writer::push_made;
+use am_clause::{Clause, Side};
 use am_simplify::{Matcher, Reason, Rewriter, StepRule, drop_reason, own_reason, places, too_big};
 use am_term::{Ctx, NoMemory, Signature, Term};
 use am_text::Form;
@@ -24,6 +25,7 @@ pub fn answer(
     let reader = Reader { alloc, sig };
     let mut out = String::new(alloc);
     match forms {
+        [call, rest @ ..] if is_rule(word(call)) => infer(&mut out, &reader, word(call), rest)?,
         [call, form] if word(call) == "step" => step(&mut out, &reader, rows, form)?,
         [call, form] if word(call) == "places" => literal_places(&mut out, &reader, form)?,
         [call, d, c] if word(call) == "subsumes" => subsumption(&mut out, &reader, d, c)?,
@@ -87,16 +89,6 @@ fn push_path(out: &mut String, path: &[u32]) -> Done {
         write!(out, "{step}")?;
     }
     Ok(out.push(')')?)
-}
-
-// The clause, and behind it each list of terms.
-fn push_made(out: &mut String, sig: &Signature, made: &Made) -> Done {
-    push_clause(out, sig, &made.clause)?;
-    for list in made.with.as_slice() {
-        out.push_str(" with")?;
-        push_terms(out, sig, list.as_slice())?;
-    }
-    Ok(())
 }
 
 // The places of a literal that aren't variables.

@@ -11,8 +11,17 @@ use std::alloc::Global;
 /// The sorts: planets are bodies, bodies are places, and the others stand apart.
 pub const SORTS: [&str; 6] = ["place", "body", "planet", "time", "utc", "et"];
 
-/// The sorts of the inputs: a planet, a moment in UTC, a body and a place.
-pub const INS: [SortId; 4] = [SortId(2), SortId(4), SortId(1), SortId(0)];
+/// The sorts of the inputs: a planet, a moment in UTC, a body, a place, another body, and three of `et`.
+pub const INS: [SortId; 8] = [
+    SortId(2),
+    SortId(4),
+    SortId(1),
+    SortId(0),
+    SortId(1),
+    SortId(5),
+    SortId(5),
+    SortId(5),
+];
 
 /// The sort of this name; any other name is a sort that isn't there.
 pub fn sort_named(word: &str) -> SortId {

@@ -1,4 +1,4 @@
-//! Answers cases of rewriting and dropping: each line of standard input is a call and what it is made with, each line
+//! Answers cases of rules of inference, of rewriting and of dropping: each line of standard input is a call and what it is made with, each line
 //! of standard output its answer.
 //!
 //! The file `stdin` says which calls there are, and the file `stdout` has answers worked out by hand. A line that
@@ -7,6 +7,7 @@
 #![tactic(auto)]
 
 mod answering;
+mod inferring;
 mod reader;
 mod signature;
 mod spelling;

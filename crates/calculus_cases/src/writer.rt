@@ -2,7 +2,7 @@
 
 use crate::Done;
 use crate::signature::{sort_name, symbol_name};
-use am_clause::Clause;
+use am_clause::{Clause, Made};
 use am_term::{Atom, Literal, Signature, SymId, Term};
 
 /// A term.
@@ -78,6 +78,16 @@ pub fn push_clause(out: &mut String, sig: &Signature, clause: &Clause) -> Done {
     push_literals(out, sig, clause.literals.as_slice())?;
     if let Some(answer) = &clause.answer {
         push_terms(out, sig, answer.as_slice())?;
+    }
+    Ok(())
+}
+
+/// The clause, and behind it each list of terms.
+pub fn push_made(out: &mut String, sig: &Signature, made: &Made) -> Done {
+    push_clause(out, sig, &made.clause)?;
+    for list in made.with.as_slice() {
+        out.push_str(" with")?;
+        push_terms(out, sig, list.as_slice())?;
     }
     Ok(())
 }
