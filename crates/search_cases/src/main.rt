@@ -3,12 +3,14 @@
 //!
 //! A line that begins with `|` goes on with the part before it, and is a line of its text; src/notation.rt says what
 //! stands for what is hard to see. Any other line begins a part: `theory` and `diagram` are read for the cases behind
-//! them; `search BUDGET WEIGHT CHOOSER` searches with these limits and a chooser: `weight`, `age` or `mixed`. Its answer
-//! has the end, the number of inferences, the rows that were chosen, the fate of each inferred row, and the number of
-//! rows of the log. A line that begins with `#` is printed as it is.
+//! them; `search BUDGET WEIGHT CHOOSER` searches with these limits and a chooser: `weight`, `age`, `mixed`, `last`, which
+//! picks the last place, or `noting`, which goes by weight and tells what it was shown. Its answer has the end, the
+//! number of inferences, the rows that were chosen, the fate of each inferred row, the number of rows of the log, and,
+//! for `noting`, each list of rows that waited, as NUMBER:WEIGHT. A line that begins with `#` is printed as it is.
 #![tactic(auto)]
 
 mod answers;
+mod choosers;
 mod notation;
 mod spelling;
 
@@ -16,9 +18,12 @@ use am_agenda::{ByAge, ByWeight, Chooser, Mixed};
 use am_search::Limits;
 use am_term::NoMemory;
 use answers::search_answer;
+use choosers::{Last, Noting};
 use notation::push_line;
 use std::alloc::Global;
+use std::cell::RefCell;
 use std::io::{self, BufRead, BufReader};
+use std::rc::Rc;
 
 /// The texts of the theory and the diagram that stand.
 #[derive(Drop)]
@@ -60,6 +65,11 @@ fn print_search(
             let chooser: Box<dyn Chooser> = Box::new(alloc, Mixed::new())?;
             search_answer(alloc, theory, diagram, limits, chooser)
         }
+        "last" => {
+            let chooser: Box<dyn Chooser> = Box::new(alloc, Last {})?;
+            search_answer(alloc, theory, diagram, limits, chooser)
+        }
+        "noting" => noted_answer(alloc, theory, diagram, limits),
         _ => {
             let chooser: Box<dyn Chooser> = Box::new(alloc, ByWeight::new())?;
             search_answer(alloc, theory, diagram, limits, chooser)
@@ -69,6 +79,24 @@ fn print_search(
         Ok(answer) => println!(rt; "{answer}"),
         Err(NoMemory) => println!(rt; "no memory"),
     }
+}
+
+// The answer by weight, and the lists of rows that the chooser was shown.
+fn noted_answer(
+    alloc: Global,
+    theory: &[u8],
+    diagram: &[u8],
+    limits: Limits,
+) -> Result<String, NoMemory> {
+    let notes = Rc::new(alloc, RefCell::new(String::new(alloc)))?;
+    let shown = Rc::clone(&notes)?;
+    let chooser: Box<dyn Chooser> = Box::new(alloc, Noting { notes: shown })?;
+    let mut answer = search_answer(alloc, theory, diagram, limits, chooser)?;
+    if let Ok(notes) = notes.try_borrow() {
+        answer.push_str("; shown")?;
+        answer.push_str(notes.as_str())?;
+    }
+    Ok(answer)
 }
 
 // Takes a part of the input in, and prints its answer if it is a case.
