@@ -1,8 +1,8 @@
 #!/bin/sh
 # Has real FORTRAN tools read the texts of units: gfortran as the old dialects and as Fortran 95, f2c
 # and ftnchek, each that is installed, over each file that is named (none: those of tools/fortran).
-# Syntax alone; but the subroutines of tools/fortran/rows.f are linked by gfortran with the stubs of
-# tools/fortran/run and run, and what they print is compared with numbers worked out by hand.
+# Syntax alone; but the subroutines of tools/fortran/rows.f and of tools/guide/nearsc.f are linked by gfortran with the
+# stubs of tools/fortran/run and run, and what they print is compared with numbers worked out by hand.
 # Says which tools ran; fails where one of them finds an error.
 cd "$(dirname "$0")/.." || exit 1
 [ $# -gt 0 ] || set -- tools/fortran/*.f
@@ -40,7 +40,7 @@ fi
 
 if command -v gfortran > /dev/null; then
     ran="$ran gfortran-run"
-    if gfortran -ffixed-form -std=legacy -x f77 -o "$work/rows" tools/fortran/rows.f tools/fortran/run/main.f; then
+    if gfortran -ffixed-form -std=legacy -x f77 -o "$work/rows" tools/fortran/rows.f tools/guide/nearsc.f tools/fortran/run/main.f; then
         "$work/rows" > "$work/printed"
         if ! cmp -s "$work/printed" tools/fortran/run/expected; then
             echo "fortran.sh: the printed subroutines give other numbers:"

@@ -61,5 +61,27 @@ while read -r name status wanted words; do
             fi ;;
     esac
 done < table
+
+# The theory of two routines, cut to each length, is read where each form that it has is closed.
+size=$(wc -c < $data/two_routines.theory)
+length=0
+while [ "$length" -le "$size" ]; do
+    count=$((count + 1))
+    head -c "$length" $data/two_routines.theory > "$work/cut.theory"
+    status=2
+    says="amphion: theory: byte $length: unclosed form"
+    if [ "$length" -eq 0 ]; then
+        says="amphion: theory: byte 0: bad form"
+    elif [ "$(tr -cd '(' < "$work/cut.theory" | wc -c)" -eq "$(tr -cd ')' < "$work/cut.theory" | wc -c)" ]; then
+        status=0
+        says=
+    fi
+    said=$("$program" theory "$work/cut.theory" 2>&1 > "$work/out")
+    got=$?
+    [ "$got" -eq "$status" ] || wrong "cut to $length" "status $got and not $status"
+    [ "$said" = "$says" ] || wrong "cut to $length" "another message than wanted: $said"
+    [ "$status" -eq 0 ] || [ ! -s "$work/out" ] || wrong "cut to $length" "a text beside a message"
+    length=$((length + 1))
+done
 [ "$failed" -eq 0 ] && echo "rows.sh: $count rows are as they were worked out"
 exit "$failed"
