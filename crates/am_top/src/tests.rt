@@ -1,14 +1,18 @@
-//! What is printed and said where a put or a fetch fails. Other rows are those of `tools/rows`.
+//! What is printed and said where a put or a fetch fails, and what a chooser is shown. Other rows are those of `tools/rows`.
 
-ghost use Rattle.std.specs.Prelude.{◌≡◌, length, IfOk};
+ghost use Rattle.std.specs.Prelude.{◌≡◌, ◌≢◌, length, IfOk};
+ghost use Rattle.am_agenda.specs.Picks.{lightest_place};
+ghost use Rattle.am_agenda.specs.Within.{lightest_below};
 
 use crate::{Status, run};
-use am_agenda::{ByAge, ByWeight, Chooser, Mixed};
+use am_agenda::{ByAge, ByWeight, Chooser, Mixed, WaitRow};
 use am_outside::{Page, Shelf};
 use am_term::Name;
 use am_world::TrivialWorld;
 use std::alloc::{AllocGlobal, Global};
+use std::cell::RefCell;
 use std::process::Abort;
+use std::rc::Rc;
 use std::test::Fail;
 
 const TWO_ROUTINES: &str =
@@ -19,12 +23,13 @@ const CONV: &str = "(diagram CONV)\n(input U utc)\n(output E et)\n(require (= E 
 const CONV_TEXT: &str =
     "C (proof 1)\nC (1 (goal) (or (not (= et?0 (utc2et U)))) (answer et?0))\nC (2 (reflex 1 1 (with (utc2et U))) (or) (answer (utc2et U)))\n      SUBROUTINE CONV(U, E)\n      CHARACTER*(*) U\n      DOUBLE PRECISION E\n      CALL UTC2ET(U, E)\n      END\n";
 
-/// What a run left: the status and what the two pages hold.
+/// What a run left: the status, what the two pages hold, and what the first chooser noted.
 #[derive(Drop)]
 struct Outcome {
     status: Status,
     out: Vec<u8>,
     err: Vec<u8>,
+    notes: Rc<RefCell<String>>,
 }
 
 fn words_of(alloc: Global, words: &[&str]) -> Result<Vec<String>, Fail> {
@@ -54,11 +59,37 @@ fn shelf_of(alloc: Global, fail: Option<u64>) -> Result<Shelf, Fail> {
     Ok(Shelf::new(files, failing))
 }
 
-/// The choosers of the program, in order.
-fn choosers_of(alloc: Global) -> Result<Vec<Box<dyn Chooser>>, Fail>
+/// Picks as `ByWeight`, and notes the number and the weight of each row that it is shown, with a bar before each list.
+#[derive(Drop)]
+struct Noting {
+    notes: Rc<RefCell<String>>,
+}
+
+impl Chooser for Noting {
+    ghost pick_after = { λ c past list. lightest_place list };
+
+    ghost below = { λ c past list some. lightest_below list some };
+
+    fn choose(&mut self, rows: &[WaitRow]) -> usize {
+        if let Ok(mut notes) = self.notes.try_borrow_mut() {
+            note(&mut notes, rows);
+        }
+        ByWeight::new().choose(rows)
+    }
+}
+
+fn note(notes: &mut String, rows: &[WaitRow]) {
+    let mut is_noted = notes.push_str(" |").is_ok();
+    for row in rows {
+        is_noted = is_noted && write!(notes, " {}:{}", row.number, row.weight).is_ok();
+    }
+}
+
+/// The choosers of the program, in order, with one that notes as the first.
+fn choosers_of(alloc: Global, notes: Rc<RefCell<String>>) -> Result<Vec<Box<dyn Chooser>>, Fail>
     ensures { IfOk result (λ choosers. length choosers.items ≡ 3) }
 {
-    let by_weight: Box<dyn Chooser> = Box::new(alloc, ByWeight::new())?;
+    let by_weight: Box<dyn Chooser> = Box::new(alloc, Noting { notes })?;
     let by_age: Box<dyn Chooser> = Box::new(alloc, ByAge::new())?;
     let mixed: Box<dyn Chooser> = Box::new(alloc, Mixed::new())?;
     let mut choosers = Vec::new(alloc);
@@ -88,7 +119,8 @@ fn ran(
     let words = words_of(alloc, words)?;
     let mut out = page_of(alloc, 65_536, out_fail)?;
     let mut err = page_of(alloc, 1_024, err_fail)?;
-    let choosers = choosers_of(alloc)?;
+    let notes = Rc::new(alloc, RefCell::new(String::new(alloc)))?;
+    let choosers = choosers_of(alloc, Rc::clone(&notes)?)?;
     let status = run(
         alloc,
         words.as_slice(),
@@ -100,7 +132,12 @@ fn ran(
     );
     let out = Vec::from_slice(alloc, out.held.as_slice())?;
     let err = Vec::from_slice(alloc, err.held.as_slice())?;
-    Ok(Outcome { status, out, err })
+    Ok(Outcome {
+        status,
+        out,
+        err,
+        notes,
+    })
 }
 
 /// That a run left this status, this text and this message.
@@ -129,6 +166,30 @@ fn answers_where_nothing_fails(rt: HostRuntime) -> Result<(), Fail> {
     let summed = ran(rt.alloc(), &["demo", "3"], shelf, None, None)?;
     let line = "demo 3: found, 4 inferences, 3 calls, 8 proof rows\n";
     expect(&rt, summed, Status::Ok, line, "");
+    Ok(())
+}
+
+/// That the first chooser was shown these lists while words were carried out, and dropped.
+fn expect_noted(rt: &(impl Abort + AllocGlobal), words: &[&str], shown: &str) -> Result<(), Fail> {
+    let shelf = shelf_of(rt.alloc(), None)?;
+    let outcome = ran(rt.alloc(), words, shelf, None, None)?;
+    assert!(rt; Rc::strong_count(&outcome.notes) == 1);
+    let notes = outcome.notes.try_borrow();
+    assert!(rt; notes.is_ok());
+    if let Ok(notes) = notes {
+        assert!(rt; notes.as_str() == shown);
+    }
+    Ok(())
+}
+
+#[test]
+fn shows_the_first_chooser_what_waits(rt: HostRuntime) -> Result<(), Fail> {
+    // The goal, which is rewritten as often as there are axioms before it waits.
+    expect_noted(&rt, &MAKE, " | 1:4")?;
+    expect_noted(&rt, &["demo", "3"], " | 7:6")?;
+    expect_noted(&rt, &["demo", "300"], " | 601:303")?;
+    expect_noted(&rt, &["make", "t", "d", "--choose", "age"], "")?;
+    expect_noted(&rt, &CHECK, "")?;
     Ok(())
 }
 
