@@ -5,14 +5,14 @@ ghost use Rattle.am_exec.specs.ItemFaults.{same_names as are_same_names, is_bad_
 ghost use Rattle.am_exec.specs.Places.{type_at as type_declared_at};
 ghost use Rattle.am_exec.specs.Terms.{bad_declaration as first_bad};
 
-use crate::lookups::{function_named, is_fortran_name, is_listed, is_one_of, result_sort};
+use crate::lookups::{is_listed, is_one_of};
 use crate::name_index::NameIndex;
 use crate::scene::Scene;
 use crate::types::{have_one_type, is_text_of_any_length, type_of_dummy, type_of_function};
 use am_diagram::Diagram;
 use am_fortran::{Decl, FortranType, Unit};
 use am_term::{Name, NoMemory, SortId};
-use am_theory::Theory;
+use am_theory::{Theory, function_named, is_fortran_name, result_sort};
 use std::alloc::Global;
 
 /// Whether the unit's name isn't the diagram's, or its dummies aren't the inputs and then the outputs.

@@ -6,13 +6,12 @@ ghost use Rattle.am_exec.specs.States.{listed_term, entry, entries};
 ghost use Rattle.am_exec.specs.Effects.{call_terms, copied_term as term_copied, literal_term_of, assigned_term as term_assigned, target_names, put_terms};
 
 use crate::faults::{behind, copied_term, front, literal_for};
-use crate::lookups::{argument_sorts, function_named, routine_named};
 use crate::operands::{name_in, operand_terms};
 use crate::scene::Scene;
 use crate::store::Store;
 use am_fortran::{Operand, Statement};
 use am_term::{Name, NoMemory, SymId, Term, copies, copy};
-use am_theory::{Routine, Theory};
+use am_theory::{Routine, Theory, argument_sorts, function_named, routine_named};
 use sqlite_items::Items;
 use std::alloc::Global;
 

@@ -5,17 +5,14 @@ ghost use Rattle.am_exec.specs.States.{term_held as held_under, is_held as is_na
 ghost use Rattle.am_exec.specs.Effects.{reads, copied_term as term_copied, literal_for as literal_asked, term_sort};
 ghost use Rattle.am_exec.specs.ItemFaults.{is_unknown as is_called_unknown, has_wrong_count as is_count_wrong, first_unset as unset_first, unset_name as name_unset, fits_operand as is_operand_fitting, fit_operands as are_operands_fitting, fits_assign as is_assign_fitting, is_copied_by as is_sort_copied, is_scalar_sort as is_sort_scalar, has_wrong_sort as is_sort_wrong};
 
-use crate::lookups::{
-    argument_sorts, copy_of, function_named, is_copy, literal_at, rep_of, routine_named,
-    sort_listed,
-};
+use crate::lookups::{literal_at, sort_listed};
 use crate::operands::name_in;
 use crate::scene::Scene;
 use crate::store::Store;
 use crate::types::is_scalar;
 use am_fortran::{Operand, Statement};
 use am_term::{Ctx, Name, SortId, SymId, Term, fits, well_sorted};
-use am_theory::Theory;
+use am_theory::{Theory, argument_sorts, copy_of, function_named, is_copy, rep_of, routine_named};
 
 /// Whether the name called or applied is none of the theory's for that kind of statement. Takes no
 /// memory, as all in this file.

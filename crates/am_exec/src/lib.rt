@@ -22,6 +22,5 @@ mod types;
 
 pub use fault::{ExecFault, ExecKind};
 pub use laws::{law_of_right, law_of_rules, law_of_runs};
-pub use lookups::{copy_of, rep_of, result_sort};
 pub use running::symbolic;
 pub use types::{dummy_type, is_scalar, local_type};

@@ -11,14 +11,13 @@ ghost use Rattle.am_exec.specs.ItemFaults.{names_set, is_large as is_term_large,
 
 use crate::declarations::{declared_type, lacks_dummy, may_be_set};
 use crate::faults::{behind, copied_sort, copied_term, front, held_sort, is_held, literal_for};
-use crate::lookups::{argument_sorts, function_named, result_sort, routine_named};
 use crate::operands::{MOST_NODES, name_in, operands_nodes};
 use crate::scene::Scene;
 use crate::store::Store;
 use crate::types::{have_one_type, type_of_name};
 use am_fortran::{Operand, Statement};
 use am_term::{Name, SortId, SymId, Term, weight};
-use am_theory::Theory;
+use am_theory::{Theory, argument_sorts, function_named, result_sort, routine_named};
 
 /// Whether a target holds a term already or stands twice. Takes no memory, as all in this file.
 #[tactic(auto, using(crate::proofs::Putting::setting))]

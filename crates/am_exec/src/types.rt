@@ -3,10 +3,10 @@ ghost use Rattle.am_exec.specs.Types.{dummy_type as dummy_kind, local_type as lo
 ghost use Rattle.am_exec.specs.ItemFaults.{have_one_type as have_same_type, function_type as function_kind};
 ghost use Rattle.am_theory.specs.Lookups.{rep_of as rep_at};
 
-use crate::lookups::{is_one_of, rep_of};
+use crate::lookups::is_one_of;
 use am_fortran::{FortranType, Unit};
 use am_term::{Name, SortId};
-use am_theory::{Rep, Theory};
+use am_theory::{Rep, Theory, rep_of};
 
 /// The type that a representation gives to a dummy. Takes no memory, as all in this file.
 pub fn dummy_type(rep: Rep) -> FortranType

@@ -20,14 +20,13 @@ use Rattle.am_term.specs.Weight.{nodes, nodes-App}
 use Rattle.am_term.proofs.Tests.{and_left, and_right}
 use Rattle.am_theory.specs.declared.theory.LiteralDecl.{LiteralDecl}
 use Rattle.am_theory.specs.declared.theory.Theory.{Theory}
-use Rattle.am_theory.specs.Lookups.{args_of, argument_sorts}
+use Rattle.am_theory.specs.Lookups.{args_of, argument_sorts, literal_of}
 use Rattle.am_theory.specs.Facts.{WellFormed, Stands, IsLiteral}
 use Rattle.am_diagram.specs.declared.diagram.Diagram.{Diagram}
 use Rattle.am_diagram.specs.Listed.{sorts_in}
 use Rattle.am_plan.specs.declared.call.Callee.{Callee}
 use Rattle.am_plan.specs.declared.call.Callee.TheVariants as callee
 use Rattle.am_plan.specs.Calls.{PlannedCall, under_step, terms_below, completed, callee_of, call_with, call_at, call_of, listed, outputs_at, value_at, made_by}
-use Rattle.am_plan.specs.Plan.{literal_of}
 use Rattle.am_plan.specs.Answers.{is_computable_symbol, ready_step, is_ready}
 use Rattle.am_plan.proofs.Membership.{Among, all-among, among-map, among-left, among-right, among-split, among-flat}
 use Rattle.am_plan.proofs.Standing.{Available}

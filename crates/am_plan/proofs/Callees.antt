@@ -16,7 +16,7 @@ use Rattle.am_theory.specs.Facts.{WellFormed, Stands, IsRoutine, IsFunction, IsL
 use Rattle.am_plan.specs.declared.call.Callee.{Callee}
 use Rattle.am_plan.specs.declared.call.Callee.TheVariants as callee
 use Rattle.am_plan.specs.Calls.{has_symbol, or_else, routine_from, function_from, callee_of}
-use Rattle.am_plan.specs.Plan.{literal_of}
+use Rattle.am_theory.specs.Lookups.{literal_of}
 use Rattle.am_plan.proofs.Membership.{Among, Different, all-among, among-map, among-flat, different-left, different-right, different-apart}
 use Rattle.am_plan.proofs.Standing.{all-index}
 use Rattle.am_plan.proofs.CallStatements.{index-among}

@@ -20,7 +20,7 @@ use Rattle.am_theory.specs.declared.theory.Routine.{Routine}
 use Rattle.am_theory.specs.declared.theory.FortranFunction.{FortranFunction}
 use Rattle.am_theory.specs.declared.theory.LiteralDecl.{LiteralDecl}
 use Rattle.am_theory.specs.declared.theory.Theory.{Theory}
-use Rattle.am_theory.specs.Lookups.{rep_of, copy_of, copy_names, listed_name, known, result_sort}
+use Rattle.am_theory.specs.Lookups.{literal_of, rep_of, copy_of, copy_names, listed_name, known, result_sort}
 use Rattle.am_theory.specs.Faults.{is_free_name}
 use Rattle.am_theory.specs.Facts.{WellFormed, IsSymbol, IsRoutine, IsFunction, IsLiteral, Stands, is_in_range, is_array, is_represented, copies_when_array}
 use Rattle.am_diagram.specs.declared.diagram.Diagram.{Diagram}
@@ -38,7 +38,7 @@ use Rattle.am_plan.specs.declared.call.Callee.TheVariants as callee
 use Rattle.am_plan.specs.Answers.{AllServe, IsAnswerFor}
 use Rattle.am_plan.specs.Calls.{PlannedCall, completed, listed, calls, outputs_at, value_at, made_at, made_by, made}
 use Rattle.am_plan.specs.Names.{Named, named, locals, name_of}
-use Rattle.am_plan.specs.Plan.{literal_or, literal_of, operand_for, routine_call, first_name, function_call, statement_at, statement_of, is_array_rep, copy_name, copy_to, is_set, copies, rep_or_double, dummy_decl, head_of, rep_of_sort, rep_of_head, local_decl, function_at, same_function, functions_used, function_decl, arguments}
+use Rattle.am_plan.specs.Plan.{literal_or, operand_for, routine_call, first_name, function_call, statement_at, statement_of, is_array_rep, copy_name, copy_to, is_set, copies, rep_or_double, dummy_decl, head_of, rep_of_sort, rep_of_head, local_decl, function_at, same_function, functions_used, function_decl, arguments}
 use Rattle.am_plan.proofs.Numbered.{named-are}
 use Rattle.am_plan.proofs.Membership.{Among, among-flat, all-among}
 use Rattle.am_plan.proofs.Operands.{operand-In, operand-App}

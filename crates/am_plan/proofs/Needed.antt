@@ -23,7 +23,8 @@ use Rattle.am_plan.specs.declared.call.Callee.{Callee}
 use Rattle.am_plan.specs.declared.call.Callee.TheVariants as callee
 use Rattle.am_plan.specs.Calls.{PlannedCall, completed, callee_of, call_with, listed, same_call, asked, calls, made_by}
 use Rattle.am_plan.specs.Names.{Named, named}
-use Rattle.am_plan.specs.Plan.{literal_of, statement_of, routine_call, function_call}
+use Rattle.am_theory.specs.Lookups.{literal_of}
+use Rattle.am_plan.specs.Plan.{statement_of, routine_call, function_call}
 use Rattle.am_plan.specs.Laws.{are_different, EachCallOnce, IsNeeded, AreNeeded, NothingNeedless}
 use Rattle.am_plan.proofs.Membership.{Among, Different, all-among, among-all, among-left, among-right, among-split, different-apart}
 use Rattle.am_plan.proofs.Standing.{Available, all-index}

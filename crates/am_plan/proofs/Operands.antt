@@ -12,7 +12,8 @@ use Rattle.am_diagram.specs.declared.diagram.Diagram.{Diagram}
 use Rattle.am_diagram.specs.Listed.{names_of}
 use Rattle.am_fortran.specs.declared.statement.Operand.TheVariants as operand
 use Rattle.am_plan.specs.Names.{Named, name_of}
-use Rattle.am_plan.specs.Plan.{literal_or, literal_of, operand_at, operand_for, copies}
+use Rattle.am_theory.specs.Lookups.{literal_of}
+use Rattle.am_plan.specs.Plan.{literal_or, operand_at, operand_for, copies}
 
 pub operand-Var : (t : Theory) (d : Diagram) (names : List Named) (n : ℕ) (s : SortId) → operand_for t d names (Var n s) ≡ operand.Name (name_of names (Var n s))
 unfolding operand_for

@@ -27,7 +27,7 @@ use Rattle.am_plan.specs.declared.call.Callee.{Callee}
 use Rattle.am_plan.specs.declared.call.Callee.TheVariants as callee
 use Rattle.am_plan.specs.Answers.{is_computable_symbol, ready_step, is_ready}
 use Rattle.am_plan.specs.Calls.{PlannedCall, terms_below, completed, has_symbol, or_else, routine_from, function_from, callee_of, call_with, listed, same_call, asked, calls, outputs_at, value_at, made_at, made_by, made}
-use Rattle.am_plan.specs.Plan.{literal_of}
+use Rattle.am_theory.specs.Lookups.{literal_of}
 use Rattle.am_plan.proofs.Asking.{below-Var, below-In, below-App, call_of-Var, call_of-In, call_of-App, own, same_call-refl, same_call-sound}
 use Rattle.am_plan.proofs.Membership.{Among, among-left, among-right, among-split, among-map, among-flat, flat-among}
 

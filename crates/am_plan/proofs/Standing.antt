@@ -16,7 +16,7 @@ use Rattle.am_theory.specs.declared.theory.LitValue.{LitValue}
 use Rattle.am_theory.specs.declared.theory.LitValue.TheVariants as value
 use Rattle.am_theory.specs.declared.theory.LiteralDecl.{LiteralDecl}
 use Rattle.am_theory.specs.declared.theory.Theory.{Theory}
-use Rattle.am_theory.specs.Lookups.{result_of, result_sort}
+use Rattle.am_theory.specs.Lookups.{literal_of, result_of, result_sort}
 use Rattle.am_theory.specs.Facts.{WellFormed, Stands as SymbolStands, IsLiteral}
 use Rattle.am_theory.specs.Faults.{same_value}
 use Rattle.am_diagram.specs.declared.diagram.Diagram.{Diagram}
@@ -29,7 +29,7 @@ use Rattle.am_exec.specs.Effects.{term_sort}
 use Rattle.am_exec.specs.ItemFaults.{unset_name, or_later, first_unset, fits_operand, fit_operands}
 use Rattle.am_exec.proofs.Held.{eq_same}
 use Rattle.am_plan.specs.Names.{Named, name_of}
-use Rattle.am_plan.specs.Plan.{written_value, literal_or, literal_of, operand_at, operand_for}
+use Rattle.am_plan.specs.Plan.{written_value, literal_or, operand_at, operand_for}
 use Rattle.am_plan.proofs.Membership.{Among, Different}
 use Rattle.am_plan.proofs.Holding.{names_in, held-there}
 

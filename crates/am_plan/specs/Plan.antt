@@ -17,7 +17,7 @@ use Rattle.am_theory.specs.declared.theory.LiteralDecl.{LiteralDecl}
 use Rattle.am_theory.specs.declared.theory.Routine.{Routine}
 use Rattle.am_theory.specs.declared.theory.FortranFunction.{FortranFunction}
 use Rattle.am_theory.specs.declared.theory.Theory.{Theory}
-use Rattle.am_theory.specs.Lookups.{rep_of, copy_of, result_sort}
+use Rattle.am_theory.specs.Lookups.{rep_of, copy_of, literal_of, result_sort}
 use Rattle.am_diagram.specs.declared.diagram.Diagram.{Diagram}
 use Rattle.am_diagram.specs.Listed.{names_of}
 use Rattle.am_fortran.specs.declared.statement.Decl.{Decl}
@@ -40,10 +40,6 @@ written_value (value.Text x) = operand.Text x
 abbrev pub literal_or : Operand → Option LiteralDecl → Operand
 literal_or o None = o
 literal_or o (Some l) = written_value l.value
-
--- the literal of a symbol
-abbrev pub literal_of : Theory → SymId → Option LiteralDecl
-literal_of t f = find (λ (l : LiteralDecl). l.symbol.0 == f.0) t.literals
 
 abbrev pub operand_at : Theory → Diagram → List Named → Term → Term-F Term → Operand
 operand_at t d names x (Term-F.Var n s) = operand.Name (name_of names x)

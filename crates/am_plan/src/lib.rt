@@ -24,11 +24,7 @@ mod seen;
 mod stating;
 
 pub use answering::is_answer;
-pub use application::Application;
 pub use call::{Callee, PlannedCall};
-pub use calling::{callee_of, calls};
-pub use fingerprint_index::FingerprintIndex;
+pub use calling::calls;
 pub use laws::{law_of_answer, law_of_calls, law_of_need};
-pub use named_terms::{NamedTerms, indexed, name_at, name_of};
-pub use naming::{Wanted, index_of, local_name, named, output_for};
 pub use planning::plan;

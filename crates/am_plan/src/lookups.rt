@@ -1,26 +1,12 @@
-ghost use Rattle.std.specs.Prelude.{◌≡◌, option_copied};
+ghost use Rattle.std.specs.Prelude.{◌≡◌};
 ghost use Rattle.am_theory.specs.Lookups.{rep_of as rep_at, result_sort as sort_given};
-ghost use Rattle.am_plan.specs.Plan.{literal_of as literal_with, rep_or_double, rep_of_sort as rep_at_sort, is_array_rep};
+ghost use Rattle.am_plan.specs.Plan.{rep_or_double, rep_of_sort as rep_at_sort, is_array_rep};
 
-use am_exec::{is_scalar, rep_of, result_sort};
+use am_exec::is_scalar;
 use am_term::{SortId, SymId};
-use am_theory::{LiteralDecl, Rep, Theory};
+use am_theory::{Rep, Theory, rep_of, result_sort};
 
-/// The literal of a symbol, if it is one. Takes no memory, as all in this file.
-pub fn literal_of(theory: &Theory, symbol: SymId) -> Option<&LiteralDecl>
-    ensures { option_copied result ≡ literal_with theory.now symbol }
-{
-    let mut rest = theory.literals.as_slice();
-    while let [literal, behind @ ..] = rest {
-        if literal.symbol.0 == symbol.0 {
-            return Some(literal);
-        }
-        rest = behind;
-    }
-    None
-}
-
-/// The representation of a sort; a double precision number's where it has none.
+/// The representation of a sort; a double precision number's where it has none. Takes no memory, as all in this file.
 pub fn rep_of_sort(theory: &Theory, sort: SortId) -> Rep
     ensures { result ≡ rep_or_double (rep_at theory.now sort) }
 {

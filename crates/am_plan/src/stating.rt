@@ -12,13 +12,12 @@ ghost use Rattle.am_plan.specs.Plan.{written_value as written, operand_for as op
 
 use crate::application::Application;
 use crate::call::{Callee, PlannedCall};
-use crate::lookups::{is_array, literal_of};
+use crate::lookups::is_array;
 use crate::named_terms::{NamedTerms, name_at, name_of};
 use am_diagram::Diagram;
-use am_exec::copy_of;
 use am_fortran::{Operand, Statement};
 use am_term::{Name, NoMemory, SortId, SymId, Term};
-use am_theory::{FortranFunction, LitValue, Routine, Theory};
+use am_theory::{FortranFunction, LitValue, Routine, Theory, copy_of, literal_of};
 use sqlite_items::Items;
 use std::alloc::Global;
 

@@ -22,3 +22,4 @@ pub mod SoundValue
 pub mod SymbolNumbers
 pub mod WellFormedRead
 mod ReadSteps
+mod JoinedNames

@@ -1,5 +1,5 @@
 -- What a theory has under a name or a number.
-use Rattle.std.specs.Prelude.{◌++◌, ℕ, Option, Some, None, List, [], ◌∷◌, map, slice_get, slice_index_or, find}
+use Rattle.std.specs.Prelude.{◌++◌, ◌==◌, ℕ, Option, Some, None, List, [], ◌∷◌, map, slice_get, slice_index_or, find}
 use Rattle.std.specs.List.{flat_map}
 use Rattle.std.specs.Str.{bytes_eq}
 use Rattle.am_term.specs.declared.id.SortId.{SortId}
@@ -9,6 +9,7 @@ use Rattle.am_term.specs.declared.signature.Signature.{Signature}
 use Rattle.am_theory.specs.declared.theory.Rep.{Rep}
 use Rattle.am_theory.specs.declared.theory.Routine.{Routine}
 use Rattle.am_theory.specs.declared.theory.FortranFunction.{FortranFunction}
+use Rattle.am_theory.specs.declared.theory.LiteralDecl.{LiteralDecl}
 use Rattle.am_theory.specs.declared.theory.Theory.{Theory}
 
 -- the name of a sort; the empty name where there is none of that number
@@ -65,6 +66,10 @@ routine_named t n = find (λ (r : Routine). bytes_eq r.name n) t.routines
 -- the listed FORTRAN function of this name
 abbrev pub function_named : Theory → List ℕ → Option FortranFunction
 function_named t n = find (λ (f : FortranFunction). bytes_eq f.name n) t.functions
+
+-- the literal of a symbol
+abbrev pub literal_of : Theory → SymId → Option LiteralDecl
+literal_of t f = find (λ (l : LiteralDecl). l.symbol.0 == f.0) t.literals
 
 abbrev pub listed_name : Option (List ℕ) → List (List ℕ)
 listed_name None = []

@@ -14,6 +14,7 @@ mod fortran;
 mod kinds;
 mod laws;
 mod limits;
+mod lookups;
 mod reading;
 mod reps;
 mod shapes;
@@ -23,6 +24,10 @@ mod theory;
 pub use declaration::{Declaration, Typed, WrittenRep};
 pub use fault::{TheoryFault, TheoryKind};
 pub use laws::theories_that_were_read_are_well_formed;
+pub use lookups::{
+    argument_sorts, copy_of, function_named, is_copy, is_fortran_name, literal_of, rep_of,
+    result_sort, routine_named,
+};
 pub use reading::read_theory;
 pub use shapes::{list_of, name_of, word_of};
 pub use theory::{Axiom, FortranFunction, LitValue, LiteralDecl, Rep, Routine, Theory};

@@ -1,7 +1,7 @@
 use Rattle.std.proofs.Common.{◌≡◌, ◌==◌, length, find}
 use Rattle.am_theory.specs.declared.theory.LiteralDecl.{LiteralDecl}
-use Rattle.am_plan.specs.Plan.{literal_of}
-use Rattle.am_plan.proofs.lookups.literal_of.Given as goal
+use Rattle.am_theory.specs.Lookups.{literal_of}
+use Rattle.am_theory.proofs.lookups.literal_of.Given as goal
 
 -- what is left decides
 abbrev pub invariant-loop-rest : goal.invariant-loop-rest

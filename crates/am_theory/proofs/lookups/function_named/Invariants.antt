@@ -2,7 +2,7 @@ use Rattle.std.proofs.Common.{◌≡◌, length, find}
 use Rattle.std.specs.Str.{bytes_eq}
 use Rattle.am_theory.specs.declared.theory.FortranFunction.{FortranFunction}
 use Rattle.am_theory.specs.Lookups.{function_named}
-use Rattle.am_exec.proofs.lookups.function_named.Given as goal
+use Rattle.am_theory.proofs.lookups.function_named.Given as goal
 
 -- what is left decides
 abbrev pub invariant-loop-rest : goal.invariant-loop-rest

@@ -1,7 +1,7 @@
 use Rattle.std.proofs.Common.{◌≡◌, length, map}
 use Rattle.am_term.specs.NameLists.{is_among}
 use Rattle.am_theory.specs.declared.theory.FortranFunction.{FortranFunction}
-use Rattle.am_exec.proofs.lookups.names_function.Given as goal
+use Rattle.am_theory.proofs.lookups.names_function.Given as goal
 
 -- what is left decides
 abbrev pub invariant-loop-rest : goal.invariant-loop-rest
