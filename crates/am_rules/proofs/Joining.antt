@@ -17,9 +17,9 @@ use Rattle.am_clause.specs.Renaming.{renamed, renamed_all, renamed-Var, renamed-
 use Rattle.am_clause.proofs.Bijections.{read-place}
 use Rattle.am_clause.proofs.Places.{same_variable-refl}
 use Rattle.am_clause.proofs.Renames.{Within, moved, term-moved}
-use Rattle.am_unify.specs.Occurrence.{follows}
+use Rattle.am_unify.specs.Occurrence.{has_given_sorts}
 use Rattle.am_unify.specs.Substitution.{Substitution, apply, applies, apply-Var, apply-In, apply-App, listed}
-use Rattle.am_unify.specs.Unifier.{IsPosed, ArePosed, IsFitting, Unifies, IsUnifier, IsSolution}
+use Rattle.am_unify.specs.Unifier.{IsSortedUnder, AreSortedUnder, IsFitting, Unifies, IsUnifier, IsSolution}
 use Rattle.am_unify.proofs.Keeping.{place-some, variable-fits}
 use Rattle.am_rules.specs.Most.{Keeps}
 use Rattle.am_rules.specs.Row.{in_lists}
@@ -28,7 +28,7 @@ use Rattle.am_rules.proofs.Standing.{never, Each, each-left, each-right, each-bo
 use Rattle.am_rules.proofs.Lifts.{all-after}
 use Rattle.am_rules.proofs.Numberings.{WasMoved, was-moved}
 use Rattle.am_rules.proofs.InstanceLaws.{sort-renamed, fit-length}
-use Rattle.am_rules.proofs.Posing.{HasSort, each-follows, follows-each, HasOne, Valid, each-valid}
+use Rattle.am_rules.proofs.Posing.{HasSort, each-given_sort, given_sorts-each, HasOne, Valid, each-valid}
 
 -- reading from one list behind another
 read-left : {A : Type 0} (xs ys : List A) (n : ℕ) (d e : A) → n < length xs → get_or (xs ++ ys) n d ≡ get_or xs n e
@@ -160,16 +160,16 @@ module _ (sig : Signature) (ins : List SortId) (vs ws : List Variable) (first : 
   abbrev pub Pairing : List (Term × Term) → Type 0
   Pairing ps = AllByRecursion (λ (e : Term × Term). Left e.0 × Right e.1) ps
 
-  pub left-posed : (t : Term) → Left t → IsPosed sig ins sorts t
-  left-posed t h = record { sorted = h.0; follows = follows-each sorts t (λ v m. left-sort v (h.1 v m)) }
+  pub left-posed : (t : Term) → Left t → IsSortedUnder sig ins sorts t
+  left-posed t h = record { sorted = h.0; follows = given_sorts-each sorts t (λ v m. left-sort v (h.1 v m)) }
 
-  right-posed : (t : Term) → Right t → IsPosed sig ins sorts (shifted (length vs) t)
+  right-posed : (t : Term) → Right t → IsSortedUnder sig ins sorts (shifted (length vs) t)
   right-posed t h = record {
     sorted = ap is_some (sort-shifted sig ins (length vs) t) ∙ h.0;
-    follows = follows-each sorts (shifted (length vs) t) (each-shifted (HasSort sorts) (length vs) t (λ v m. right-sort v (h.1 v m)));
+    follows = given_sorts-each sorts (shifted (length vs) t) (each-shifted (HasSort sorts) (length vs) t (λ v m. right-sort v (h.1 v m)));
   }
 
-  pub apart-posed : (ps : List (Term × Term)) → Pairing ps → ArePosed sig ins sorts (apart (length vs) ps)
+  pub apart-posed : (ps : List (Term × Term)) → Pairing ps → AreSortedUnder sig ins sorts (apart (length vs) ps)
   apart-posed [] h = tt
   apart-posed (p ∷ ps) h = ((left-posed p.0 h.0.0, right-posed p.1 h.0.1), apart-posed ps h.1)
 
@@ -259,7 +259,7 @@ module _ (sig : Signature) (ins : List SortId) (vs ws : List Variable) (first : 
 
     pub image_fine : (k : ℕ) (v : Variable) → v.1 ≡ sorts (v.0 + k) → Valid sig ins v → Each Fine (occurrences (σ (v.0 + k) v.1))
     image_fine k v e valid w m = (
-      each-follows sorts (σ (v.0 + k) v.1) (subst (λ s. follows sorts (σ (v.0 + k) s) ≡ true) (sym e) (solved.most_general.follows (v.0 + k))) w m,
+      each-given_sort sorts (σ (v.0 + k) v.1) (subst (λ s. has_given_sorts sorts (σ (v.0 + k) s) ≡ true) (sym e) (solved.most_general.follows (v.0 + k))) w m,
       each-valid sig ins (σ (v.0 + k) v.1) (place-some sig (sort_of sig ins (σ (v.0 + k) v.1)) v.1 (image_fits k v e valid)) w m,
     )
 

@@ -11,7 +11,7 @@ use Rattle.am_clause.specs.Numbered.{IsNumbered}
 use Rattle.am_clause.proofs.Renames.{Within, within-left}
 use Rattle.am_unify.specs.Mgu.{mgu}
 use Rattle.am_unify.specs.Substitution.{apply, listed}
-use Rattle.am_unify.specs.Unifier.{ArePosed, Unifies, IsUnifier, IsSolved}
+use Rattle.am_unify.specs.Unifier.{AreSortedUnder, Unifies, IsUnifier, IsSolved}
 use Rattle.am_unify.proofs.Solved.{mgu-solved}
 use Rattle.am_rules.specs.Binding.{BindsOne, OfOne, of_one}
 use Rattle.am_rules.specs.Made.{IsMade, IsAnswer, IsNatural}
@@ -51,7 +51,7 @@ module _ (sig : Signature) (ins : List SortId) (p : Clause) (numbered : IsNumber
   abbrev Paired : List (Term × Term) → Type 0
   Paired ps = AllByRecursion (λ (e : Term × Term). G e.0 × G e.1) ps
 
-  posed : (ps : List (Term × Term)) → Paired ps → ArePosed sig ins ss ps
+  posed : (ps : List (Term × Term)) → Paired ps → AreSortedUnder sig ins ss ps
   posed [] h = tt
   posed (e ∷ ps) h = ((left-posed sig ins vs [] numbered none-counted e.0 h.0.0, left-posed sig ins vs [] numbered none-counted e.1 h.0.1), posed ps h.1)
 

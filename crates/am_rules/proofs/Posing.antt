@@ -17,8 +17,8 @@ use Rattle.am_term.proofs.Forest.{same_sort-same}
 use Rattle.am_term.proofs.Tests.{and_left, and_right, and_both}
 use Rattle.am_clause.specs.declared.clause.Clause.{Clause}
 use Rattle.am_clause.specs.Variables.{Variable, occurrences, occurrences_all, in_atom, in_answer, in_literals, in_clause, occurrences-In, occurrences-App, occurrences-none}
-use Rattle.am_unify.specs.Occurrence.{follows, follows-Var, follows-In, follows-App}
-use Rattle.am_unify.proofs.Instances.{follows_sort}
+use Rattle.am_unify.specs.Occurrence.{has_given_sorts, has_given_sorts-Var, has_given_sorts-In, has_given_sorts-App}
+use Rattle.am_unify.proofs.Instances.{given_sort}
 use Rattle.am_unify.proofs.Keeping.{place-some, sort_of-valid}
 use Rattle.am_rules.specs.Parts.{answer_terms}
 use Rattle.am_rules.specs.Resolution.{atom_at}
@@ -32,25 +32,25 @@ module _ (sorts : ℕ → SortId) where
   abbrev pub HasSort : Variable → Type 0
   HasSort v = v.1 ≡ sorts v.0
 
-  pub each-follows : (t : Term) → follows sorts t ≡ true → Each HasSort (occurrences t)
-  each-follows = term_induct
-      (λ t. follows sorts t ≡ true → Each HasSort (occurrences t))
-      (λ ts. list_all (follows sorts) ts ≡ true → Each HasSort (occurrences_all ts))
-      (λ n s h. one-var HasSort n s (follows_sort sorts n s h))
+  pub each-given_sort : (t : Term) → has_given_sorts sorts t ≡ true → Each HasSort (occurrences t)
+  each-given_sort = term_induct
+      (λ t. has_given_sorts sorts t ≡ true → Each HasSort (occurrences t))
+      (λ ts. list_all (has_given_sorts sorts) ts ≡ true → Each HasSort (occurrences_all ts))
+      (λ n s h. one-var HasSort n s (given_sort sorts n s h))
       (λ k h v m. never (rw occurrences-In at m))
-      (λ f ts h e. rw occurrences-App (h (sym (follows-App sorts f ts) ∙ e)))
+      (λ f ts h e. rw occurrences-App (h (sym (has_given_sorts-App sorts f ts) ∙ e)))
       (λ h v m. never (rw occurrences-none at m))
-      (λ t ts h k e. each-more HasSort t ts (h (and_left (follows sorts t) (list_all (follows sorts) ts) e)) (k (and_right (follows sorts t) (list_all (follows sorts) ts) e)))
+      (λ t ts h k e. each-more HasSort t ts (h (and_left (has_given_sorts sorts t) (list_all (has_given_sorts sorts) ts) e)) (k (and_right (has_given_sorts sorts t) (list_all (has_given_sorts sorts) ts) e)))
 
-  pub follows-each : (t : Term) → Each HasSort (occurrences t) → follows sorts t ≡ true
-  follows-each = term_induct
-      (λ t. Each HasSort (occurrences t) → follows sorts t ≡ true)
-      (λ ts. Each HasSort (occurrences_all ts) → list_all (follows sorts) ts ≡ true)
-      (λ n s h. follows-Var sorts n s ∙ subst (λ r. same_sort s r ≡ true) (each-Var HasSort n s h) (same_sort-same s))
-      (λ k h. follows-In sorts k)
-      (λ f ts h e. follows-App sorts f ts ∙ h (each-App HasSort f ts e))
+  pub given_sorts-each : (t : Term) → Each HasSort (occurrences t) → has_given_sorts sorts t ≡ true
+  given_sorts-each = term_induct
+      (λ t. Each HasSort (occurrences t) → has_given_sorts sorts t ≡ true)
+      (λ ts. Each HasSort (occurrences_all ts) → list_all (has_given_sorts sorts) ts ≡ true)
+      (λ n s h. has_given_sorts-Var sorts n s ∙ subst (λ r. same_sort s r ≡ true) (each-Var HasSort n s h) (same_sort-same s))
+      (λ k h. has_given_sorts-In sorts k)
+      (λ f ts h e. has_given_sorts-App sorts f ts ∙ h (each-App HasSort f ts e))
       (λ h. refl)
-      (λ t ts h k e. and_both (follows sorts t) (list_all (follows sorts) ts) (h (each-head HasSort t ts e)) (k (each-tail HasSort t ts e)))
+      (λ t ts h k e. and_both (has_given_sorts sorts t) (list_all (has_given_sorts sorts) ts) (h (each-head HasSort t ts e)) (k (each-tail HasSort t ts e)))
 
 module _ (sig : Signature) (ins : List SortId) where
   abbrev pub HasOne : Term → Type 0

@@ -9,3 +9,4 @@ pub mod Unified
 pub mod Walks
 pub mod Renamed
 pub mod Matched
+pub mod Numbers

@@ -18,9 +18,9 @@ use Rattle.am_term.proofs.Alike.{same_term-refl, same_term-sound}
 use Rattle.am_term.proofs.Forest.{fits-same}
 use Rattle.am_term.proofs.Tests.{and_left, and_right, and_both, or_assoc, or_comm, or_true, or_false}
 use Rattle.am_unify.specs.Matching.{IsInstance, is_bound, IsMatch, IsMatched, held, Matcher, and_then, match_all, bind_held, match_app, matched, matched-Var, matched-In, matched-App, matched_laws}
-use Rattle.am_unify.specs.Occurrence.{occurs, occurs-Var, occurs-In, occurs-App}
+use Rattle.am_unify.specs.Occurrence.{number_occurs, number_occurs-Var, number_occurs-In, number_occurs-App}
 use Rattle.am_unify.specs.Substitution.{Substitution, apply, applies, apply-Var, apply-In, apply-App, bound_to, listed, insert_binding, IsRising}
-use Rattle.am_unify.specs.Unifier.{IsPosed, IsFitting}
+use Rattle.am_unify.specs.Unifier.{IsSortedUnder, IsFitting}
 use Rattle.am_unify.proofs.Standing.{number_same, number_is}
 use Rattle.am_unify.proofs.Steps.{is_var, is_in as is_input, is_app}
 use Rattle.am_unify.proofs.Instances.{all-insert, rising-insert}
@@ -159,12 +159,12 @@ module _ (sig : Signature) (ins : List SortId) (sorts : ℕ → SortId) where
   }
 
   abbrev Matches : Term → Type 0
-  Matches t = IsPosed sig ins sorts t → (u : Term) (bs : List (ℕ × Term)) → Claim (λ n. occurs n t) (λ θ. apply θ t ≡ u) bs (matched sig ins t u bs)
+  Matches t = IsSortedUnder sig ins sorts t → (u : Term) (bs : List (ℕ × Term)) → Claim (λ n. number_occurs n t) (λ θ. apply θ t ≡ u) bs (matched sig ins t u bs)
 
   abbrev MatchAll : List Term → Type 0
-  MatchAll ts = AllByRecursion (IsPosed sig ins sorts) ts → (us : List Term) (bs : List (ℕ × Term)) → length ts ≡ length us → Claim (λ n. list_any (occurs n) ts) (λ θ. applies θ ts ≡ us) bs (match_all (map (matched sig ins) ts) us bs)
+  MatchAll ts = AllByRecursion (IsSortedUnder sig ins sorts) ts → (us : List Term) (bs : List (ℕ × Term)) → length ts ≡ length us → Claim (λ n. list_any (number_occurs n) ts) (λ θ. applies θ ts ≡ us) bs (match_all (map (matched sig ins) ts) us bs)
 
-  module _ (n : ℕ) (s : SortId) (posed : IsPosed sig ins sorts (Var n s)) (u : Term) (bs : List (ℕ × Term)) where
+  module _ (n : ℕ) (s : SortId) (posed : IsSortedUnder sig ins sorts (Var n s)) (u : Term) (bs : List (ℕ × Term)) where
     sort : s ≡ sorts n
     sort = posed_sort sig ins sorts n s posed
 
@@ -180,12 +180,12 @@ module _ (sig : Signature) (ins : List SortId) (sorts : ℕ → SortId) where
         k ∙ sym (ap (λ x. x || true) k)
     stands m false e h = sym (or_false (is_bound m bs))
 
-    fresh : (b : Bool) → fits_place sig (sort_of sig ins u) s ≡ b → held bs n u ≡ None → Claim (λ m. occurs m (Var n s)) (λ θ. apply θ (Var n s) ≡ u) bs (if b then Some (insert_binding n u bs) else None)
+    fresh : (b : Bool) → fits_place sig (sort_of sig ins u) s ≡ b → held bs n u ≡ None → Claim (λ m. number_occurs m (Var n s)) (λ θ. apply θ (Var n s) ≡ u) bs (if b then Some (insert_binding n u bs) else None)
     fresh true fit e = record {
       solves = λ θ h. let k = all-inserted (λ (b : ℕ × Term). θ b.0 (sorts b.0) ≡ b.1) n u bs h in (k.1, at_variable θ ∙ k.0);
       solved = λ θ h is. all-insert (λ (b : ℕ × Term). θ b.0 (sorts b.0) ≡ b.1) n u bs (sym (at_variable θ) ∙ is) h;
       rising = λ h. rising-insert n u bs (held-none n u bs e) h;
-      exact = λ m. bound-inserted m n u bs ∙ (or_comm (m == n) (is_bound m bs) ∙ ap (λ x. is_bound m bs || x) (sym (occurs-Var m n s)));
+      exact = λ m. bound-inserted m n u bs ∙ (or_comm (m == n) (is_bound m bs) ∙ ap (λ x. is_bound m bs || x) (sym (number_occurs-Var m n s)));
       fits = λ h. all-insert Fit n u bs (subst (λ r. fits_place sig (sort_of sig ins u) r ≡ true) sort fit) h;
     }
     fresh false fit e = λ θ fitting h is.
@@ -193,12 +193,12 @@ module _ (sig : Signature) (ins : List SortId) (sorts : ℕ → SortId) where
         let a : fits_place sig (sort_of sig ins u) (sorts n) ≡ true = subst (λ t. fits_place sig (sort_of sig ins t) (sorts n) ≡ true) one (fitting n valid) in
         true≢false (sym a ∙ (ap (fits_place sig (sort_of sig ins u)) (sym sort) ∙ fit))
 
-    by_held : (o : Option Bool) → held bs n u ≡ o → Claim (λ m. occurs m (Var n s)) (λ θ. apply θ (Var n s) ≡ u) bs (bind_held sig ins n s u bs o)
+    by_held : (o : Option Bool) → held bs n u ≡ o → Claim (λ m. number_occurs m (Var n s)) (λ θ. apply θ (Var n s) ≡ u) bs (bind_held sig ins n s u bs o)
     by_held (Some true) e = record {
       solves = λ θ h. (h, at_variable θ ∙ same_term-sound (θ n (sorts n)) u (held-solved sorts n u bs true e θ h));
       solved = λ θ h is. h;
       rising = λ h. h;
-      exact = λ m. stands m (m == n) refl (held-bound n u bs true e) ∙ ap (λ x. is_bound m bs || x) (sym (occurs-Var m n s));
+      exact = λ m. stands m (m == n) refl (held-bound n u bs true e) ∙ ap (λ x. is_bound m bs || x) (sym (number_occurs-Var m n s));
       fits = λ h. h;
     }
     by_held (Some false) e = λ θ fitting h is.
@@ -206,18 +206,18 @@ module _ (sig : Signature) (ins : List SortId) (sorts : ℕ → SortId) where
         true≢false (sym (same_term-refl u) ∙ (ap (λ x. same_term x u) (sym one) ∙ held-solved sorts n u bs false e θ h))
     by_held None e = fresh (fits_place sig (sort_of sig ins u) s) refl e
 
-    variable-matches : Claim (λ m. occurs m (Var n s)) (λ θ. apply θ (Var n s) ≡ u) bs (matched sig ins (Var n s) u bs)
-    variable-matches = subst (Claim (λ m. occurs m (Var n s)) (λ θ. apply θ (Var n s) ≡ u) bs) (sym (matched-Var sig ins n s u bs)) (by_held (held bs n u) refl)
+    variable-matches : Claim (λ m. number_occurs m (Var n s)) (λ θ. apply θ (Var n s) ≡ u) bs (matched sig ins (Var n s) u bs)
+    variable-matches = subst (Claim (λ m. number_occurs m (Var n s)) (λ θ. apply θ (Var n s) ≡ u) bs) (sym (matched-Var sig ins n s u bs)) (by_held (held bs n u) refl)
 
   input-matches : (k : ℕ) → Matches (In k)
-  input-matches k posed u bs = subst (Claim (λ m. occurs m (In k)) (λ θ. apply θ (In k) ≡ u) bs) (sym (matched-In sig ins k u bs)) (by_test (is_in k (out-Term u)) refl)
+  input-matches k posed u bs = subst (Claim (λ m. number_occurs m (In k)) (λ θ. apply θ (In k) ≡ u) bs) (sym (matched-In sig ins k u bs)) (by_test (is_in k (out-Term u)) refl)
     where
-      by_test : (b : Bool) → is_in k (out-Term u) ≡ b → Claim (λ m. occurs m (In k)) (λ θ. apply θ (In k) ≡ u) bs (if b then Some bs else None)
+      by_test : (b : Bool) → is_in k (out-Term u) ≡ b → Claim (λ m. number_occurs m (In k)) (λ θ. apply θ (In k) ≡ u) bs (if b then Some bs else None)
       by_test true e = record {
         solves = λ θ h. (h, apply-In θ k ∙ same_term-sound (In k) u (same_term-In k u ∙ e));
         solved = λ θ h is. h;
         rising = λ h. h;
-        exact = λ m. sym (or_false (is_bound m bs)) ∙ ap (λ x. is_bound m bs || x) (sym (occurs-In m k));
+        exact = λ m. sym (or_false (is_bound m bs)) ∙ ap (λ x. is_bound m bs || x) (sym (number_occurs-In m k));
         fits = λ h. h;
       }
       by_test false e = λ θ fitting h is.
@@ -225,15 +225,15 @@ module _ (sig : Signature) (ins : List SortId) (sorts : ℕ → SortId) where
           true≢false (sym (same_term-refl (In k)) ∙ (ap (same_term (In k)) one ∙ (same_term-In k u ∙ e)))
 
   application-matches : (f : SymId) (args : List Term) → MatchAll args → Matches (App f args)
-  application-matches f args h posed u bs = subst (Claim (λ m. occurs m (App f args)) (λ θ. apply θ (App f args) ≡ u) bs) (sym (matched-App sig ins f args u bs)) (by_kind (out-Term u) refl)
+  application-matches f args h posed u bs = subst (Claim (λ m. number_occurs m (App f args)) (λ θ. apply θ (App f args) ≡ u) bs) (sym (matched-App sig ins f args u bs)) (by_kind (out-Term u) refl)
     where
       by_count : (g : SymId) (us : List Term) (b : Bool) → u ≡ App g us → (f.0 == g.0 && length (map (matched sig ins) args) == length us) ≡ b
-          → Claim (λ m. occurs m (App f args)) (λ θ. apply θ (App f args) ≡ u) bs (if b then match_all (map (matched sig ins) args) us bs else None)
+          → Claim (λ m. number_occurs m (App f args)) (λ θ. apply θ (App f args) ≡ u) bs (if b then match_all (map (matched sig ins) args) us bs else None)
       by_count g us true is e =
           let same : f ≡ g = ap (λ (i : ℕ). let x : SymId = record { 0 = i } in x) (number_is f.0 g.0 (and_left (f.0 == g.0) (length (map (matched sig ins) args) == length us) e)) in
           let counts : length args ≡ length us = sym (length-map args (matched sig ins)) ∙ number_is (length (map (matched sig ins) args)) (length us) (and_right (f.0 == g.0) (length (map (matched sig ins) args) == length us) e) in
-          moved (λ m. list_any (occurs m) args) (λ m. occurs m (App f args)) (λ θ. applies θ args ≡ us) (λ θ. apply θ (App f args) ≡ u) bs
-          (λ m. sym (occurs-App m f args))
+          moved (λ m. list_any (number_occurs m) args) (λ m. number_occurs m (App f args)) (λ θ. applies θ args ≡ us) (λ θ. apply θ (App f args) ≡ u) bs
+          (λ m. sym (number_occurs-App m f args))
           (λ θ d. apply-App θ f args ∙ (ap (App f) d ∙ (ap (λ x. App x us) same ∙ sym is)))
           (λ θ d. let a : AreAlike f g (applies θ args) us = app-alike f g (applies θ args) us (sym (apply-App θ f args) ∙ (d ∙ is)) in a.arguments)
           (match_all (map (matched sig ins) args) us bs)
@@ -244,7 +244,7 @@ module _ (sig : Signature) (ins : List SortId) (sorts : ℕ → SortId) where
           let counts : length (map (matched sig ins) args) ≡ length us = length-map args (matched sig ins) ∙ (sym (length-map args (apply θ)) ∙ ap length a.arguments) in
           true≢false (sym (and_both (f.0 == g.0) (length (map (matched sig ins) args) == length us) (subst (λ x. (f.0 == x) ≡ true) symbols (number_same f.0)) (subst (λ x. (length (map (matched sig ins) args) == x) ≡ true) counts (number_same (length (map (matched sig ins) args))))) ∙ e)
 
-      by_kind : (x : Term-F Term) → out-Term u ≡ x → Claim (λ m. occurs m (App f args)) (λ θ. apply θ (App f args) ≡ u) bs (match_app sig ins f (map (matched sig ins) args) x bs)
+      by_kind : (x : Term-F Term) → out-Term u ≡ x → Claim (λ m. number_occurs m (App f args)) (λ θ. apply θ (App f args) ≡ u) bs (match_app sig ins f (map (matched sig ins) args) x bs)
       by_kind (Term-F.Var n s) is = λ θ fitting k d. app-var f (applies θ args) n s (sym (apply-App θ f args) ∙ (d ∙ is_var u n s is))
       by_kind (Term-F.In j) is = λ θ fitting k d. in-app j f (applies θ args) (sym (sym (apply-App θ f args) ∙ (d ∙ is_input u j is)))
       by_kind (Term-F.App g us) is = by_count g us (f.0 == g.0 && length (map (matched sig ins) args) == length us) (is_app u g us is) refl
@@ -263,20 +263,20 @@ module _ (sig : Signature) (ins : List SortId) (sorts : ℕ → SortId) where
   more-match t ts h k p [] bs l = absurd (omega arith)
   more-match t ts h k p (u ∷ us) bs l = by_test (matched sig ins t u bs) (h p.0 u bs)
     where
-      by_test : (o : Option (List (ℕ × Term))) → Claim (λ n. occurs n t) (λ θ. apply θ t ≡ u) bs o
-          → Claim (λ n. occurs n t || list_any (occurs n) ts) (λ θ. applies θ (t ∷ ts) ≡ (u ∷ us)) bs (and_then o (match_all (map (matched sig ins) ts) us))
+      by_test : (o : Option (List (ℕ × Term))) → Claim (λ n. number_occurs n t) (λ θ. apply θ t ≡ u) bs o
+          → Claim (λ n. number_occurs n t || list_any (number_occurs n) ts) (λ θ. applies θ (t ∷ ts) ≡ (u ∷ us)) bs (and_then o (match_all (map (matched sig ins) ts) us))
       by_test None c = λ θ fitting s e. c θ fitting s (heads (apply θ t) u (applies θ ts) us e)
-      by_test (Some cs) c = moved (λ n. occurs n t || list_any (occurs n) ts) (λ n. occurs n t || list_any (occurs n) ts) (λ θ. (apply θ t ≡ u) × (applies θ ts ≡ us)) (λ θ. applies θ (t ∷ ts) ≡ (u ∷ us)) bs
+      by_test (Some cs) c = moved (λ n. number_occurs n t || list_any (number_occurs n) ts) (λ n. number_occurs n t || list_any (number_occurs n) ts) (λ θ. (apply θ t ≡ u) × (applies θ ts ≡ us)) (λ θ. applies θ (t ∷ ts) ≡ (u ∷ us)) bs
           (λ n. refl)
           (λ θ e. ap (λ x. x ∷ applies θ ts) e.0 ∙ ap (λ xs. u ∷ xs) e.1)
           (λ θ e. (heads (apply θ t) u (applies θ ts) us e, tails (apply θ t) u (applies θ ts) us e))
           (match_all (map (matched sig ins) ts) us cs)
-          (chained (λ n. occurs n t) (λ n. list_any (occurs n) ts) (λ θ. apply θ t ≡ u) (λ θ. applies θ ts ≡ us) bs cs c (match_all (map (matched sig ins) ts) us cs) (k p.1 us cs (omega arith)))
+          (chained (λ n. number_occurs n t) (λ n. list_any (number_occurs n) ts) (λ θ. apply θ t ≡ u) (λ θ. applies θ ts ≡ us) bs cs c (match_all (map (matched sig ins) ts) us cs) (k p.1 us cs (omega arith)))
 
   term-matches : (t : Term) → Matches t
   term-matches = term_induct Matches MatchAll (λ n s posed u bs. variable-matches n s posed u bs) input-matches application-matches none-match more-match
 
-  answered : (pattern term : Term) (o : Option (List (ℕ × Term))) → Claim (λ n. occurs n pattern) (λ θ. apply θ pattern ≡ term) [] o → IsMatched sig ins sorts pattern term o
+  answered : (pattern term : Term) (o : Option (List (ℕ × Term))) → Claim (λ n. number_occurs n pattern) (λ θ. apply θ pattern ≡ term) [] o → IsMatched sig ins sorts pattern term o
   answered pattern term None h = λ θ k. h θ k.fitting tt k.equal
   answered pattern term (Some cs) h =
       let rising : IsRising cs = h.rising tt in
@@ -287,7 +287,7 @@ module _ (sig : Signature) (ins : List SortId) (sorts : ℕ → SortId) where
         only = λ θ e n o. solves-at sorts θ n cs (h.solved θ tt e) (h.exact n ∙ o);
       }
 
-  pub matched-answer : (pattern term : Term) → IsPosed sig ins sorts pattern → IsMatched sig ins sorts pattern term (matched sig ins pattern term [])
+  pub matched-answer : (pattern term : Term) → IsSortedUnder sig ins sorts pattern → IsMatched sig ins sorts pattern term (matched sig ins pattern term [])
   matched-answer pattern term posed = answered pattern term (matched sig ins pattern term []) (term-matches pattern posed term [])
 
 -- what is left decides

@@ -15,12 +15,12 @@ use Rattle.am_term.specs.Sorting.{fits_place, sort_of}
 use Rattle.am_term.proofs.Forest.{fits-antisym, fits-same}
 use Rattle.am_term.proofs.Tests.{or_cases, and_left, and_right, fails}
 use Rattle.am_unify.specs.Mgu.{Solver, bind, open_pair, mgu}
-use Rattle.am_unify.specs.Occurrence.{occurs, occurs-Var, occurs-In, occurs-App, follows, follows-App}
+use Rattle.am_unify.specs.Occurrence.{number_occurs, number_occurs-Var, number_occurs-In, number_occurs-App, has_given_sorts, has_given_sorts-App}
 use Rattle.am_unify.specs.Substitution.{Substitution, apply, applies, apply-Var, apply-In, apply-App, listed, after_binding}
-use Rattle.am_unify.specs.Unifier.{IsPosed, IsMostGeneral, IsRenamed}
+use Rattle.am_unify.specs.Unifier.{IsSortedUnder, IsMostGeneral, IsRenamed}
 use Rattle.am_unify.proofs.Standing.{number_is}
 use Rattle.am_unify.proofs.Steps.{is_var, is_in, is_app, mgu-none, mgu-more}
-use Rattle.am_unify.proofs.Instances.{follows_sort}
+use Rattle.am_unify.proofs.Instances.{given_sort}
 use Rattle.am_unify.proofs.Keeping.{place-some, sort_of-valid, sort_of-variable, arguments-posed}
 use Rattle.am_unify.proofs.Solved.{AreAlike, app-alike}
 
@@ -42,45 +42,45 @@ tails x y xs ys e = cc
 
 module _ (sorts : ℕ → SortId) where
   -- a term that stays has variables that stay
-  pub stays : (σ : Substitution) (m : ℕ) (t : Term) → follows sorts t ≡ true → apply σ t ≡ t → occurs m t ≡ true → σ m (sorts m) ≡ Var m (sorts m)
+  pub stays : (σ : Substitution) (m : ℕ) (t : Term) → has_given_sorts sorts t ≡ true → apply σ t ≡ t → number_occurs m t ≡ true → σ m (sorts m) ≡ Var m (sorts m)
   stays σ m = term_induct
-      (λ t. follows sorts t ≡ true → apply σ t ≡ t → occurs m t ≡ true → σ m (sorts m) ≡ Var m (sorts m))
-      (λ ts. list_all (follows sorts) ts ≡ true → applies σ ts ≡ ts → list_any (occurs m) ts ≡ true → σ m (sorts m) ≡ Var m (sorts m))
+      (λ t. has_given_sorts sorts t ≡ true → apply σ t ≡ t → number_occurs m t ≡ true → σ m (sorts m) ≡ Var m (sorts m))
+      (λ ts. list_all (has_given_sorts sorts) ts ≡ true → applies σ ts ≡ ts → list_any (number_occurs m) ts ≡ true → σ m (sorts m) ≡ Var m (sorts m))
       (λ n s f e o.
-      let is : m ≡ n = number_is m n (sym (occurs-Var m n s) ∙ o) in
-      let of : s ≡ sorts n = follows_sort sorts n s f in
+      let is : m ≡ n = number_is m n (sym (number_occurs-Var m n s) ∙ o) in
+      let of : s ≡ sorts n = given_sort sorts n s f in
       let same : σ n s ≡ Var n s = sym (apply-Var σ n s) ∙ e in
       subst (λ x. σ x (sorts x) ≡ Var x (sorts x)) (sym is) (subst (λ r. σ n r ≡ Var n r) of same))
-      (λ k f e o. never (sym (occurs-In m k) ∙ o))
+      (λ k f e o. never (sym (number_occurs-In m k) ∙ o))
       (λ g args h f e o.
       let k : AreAlike g g (applies σ args) args = app-alike g g (applies σ args) args (sym (apply-App σ g args) ∙ e) in
-      h (sym (follows-App sorts g args) ∙ f) k.arguments (sym (occurs-App m g args) ∙ o))
+      h (sym (has_given_sorts-App sorts g args) ∙ f) k.arguments (sym (number_occurs-App m g args) ∙ o))
       (λ f e o. never o)
-      (λ t ts h k f e o. elim (or_cases (occurs m t) (list_any (occurs m) ts) o) [
-        | inl d ↦ h (and_left (follows sorts t) (list_all (follows sorts) ts) f) (heads (apply σ t) t (applies σ ts) ts e) d
-        | inr d ↦ k (and_right (follows sorts t) (list_all (follows sorts) ts) f) (tails (apply σ t) t (applies σ ts) ts e) d
+      (λ t ts h k f e o. elim (or_cases (number_occurs m t) (list_any (number_occurs m) ts) o) [
+        | inl d ↦ h (and_left (has_given_sorts sorts t) (list_all (has_given_sorts sorts) ts) f) (heads (apply σ t) t (applies σ ts) ts e) d
+        | inr d ↦ k (and_right (has_given_sorts sorts t) (list_all (has_given_sorts sorts) ts) f) (tails (apply σ t) t (applies σ ts) ts e) d
       ])
 
 module _ (sig : Signature) (ins : List SortId) (sorts : ℕ → SortId) where
   -- the variables of a well-sorted term have sorts of the signature
-  pub inner-valid : (m : ℕ) (t : Term) → IsPosed sig ins sorts t → occurs m t ≡ true → (sorts m).0 < length sig.sorts
+  pub inner-valid : (m : ℕ) (t : Term) → IsSortedUnder sig ins sorts t → number_occurs m t ≡ true → (sorts m).0 < length sig.sorts
   inner-valid m = term_induct
-      (λ t. IsPosed sig ins sorts t → occurs m t ≡ true → (sorts m).0 < length sig.sorts)
-      (λ ts. AllByRecursion (IsPosed sig ins sorts) ts → list_any (occurs m) ts ≡ true → (sorts m).0 < length sig.sorts)
+      (λ t. IsSortedUnder sig ins sorts t → number_occurs m t ≡ true → (sorts m).0 < length sig.sorts)
+      (λ ts. AllByRecursion (IsSortedUnder sig ins sorts) ts → list_any (number_occurs m) ts ≡ true → (sorts m).0 < length sig.sorts)
       (λ n s h o.
-      let is : m ≡ n = number_is m n (sym (occurs-Var m n s) ∙ o) in
-      let of : s ≡ sorts n = follows_sort sorts n s h.follows in
+      let is : m ≡ n = number_is m n (sym (number_occurs-Var m n s) ∙ o) in
+      let of : s ≡ sorts n = given_sort sorts n s h.follows in
       subst (λ x. (sorts x).0 < length sig.sorts) (sym is) (subst (λ (r : SortId). r.0 < length sig.sorts) of (sort_of-valid sig ins n s h.sorted)))
-      (λ k h o. never (sym (occurs-In m k) ∙ o))
-      (λ g args h p o. h (arguments-posed sig ins sorts g args p) (sym (occurs-App m g args) ∙ o))
+      (λ k h o. never (sym (number_occurs-In m k) ∙ o))
+      (λ g args h p o. h (arguments-posed sig ins sorts g args p) (sym (number_occurs-App m g args) ∙ o))
       (λ h o. never o)
-      (λ t ts h k p o. elim (or_cases (occurs m t) (list_any (occurs m) ts) o) [
+      (λ t ts h k p o. elim (or_cases (number_occurs m t) (list_any (number_occurs m) ts) o) [
         | inl d ↦ h p.0 d
         | inr d ↦ k p.1 d
       ])
 
   module _ (σ τ : Substitution) (ps : List (Term × Term)) (first : IsMostGeneral sig ins sorts σ ps) (second : IsMostGeneral sig ins sorts τ ps) where
-    image_posed : (n : ℕ) → (sorts n).0 < length sig.sorts → IsPosed sig ins sorts (σ n (sorts n))
+    image_posed : (n : ℕ) → (sorts n).0 < length sig.sorts → IsSortedUnder sig ins sorts (σ n (sorts n))
     image_posed n valid = record {
       sorted = place-some sig (sort_of sig ins (σ n (sorts n))) (sorts n) (first.unifier.fitting n valid);
       follows = first.follows n;
@@ -98,7 +98,7 @@ module _ (sig : Signature) (ins : List SortId) (sorts : ℕ → SortId) where
     by_kind : (m : ℕ) → (sorts m).0 < length sig.sorts → σ m (sorts m) ≡ Var m (sorts m) → (x : Term-F Term) → out-Term (τ m (sorts m)) ≡ x → Variable m
     by_kind m valid e (Term-F.Var k s) is =
         let named : τ m (sorts m) ≡ Var k s = is_var (τ m (sorts m)) k s is in
-        let own : s ≡ sorts k = follows_sort sorts k s (subst (λ t. follows sorts t ≡ true) named (second.follows m)) in
+        let own : s ≡ sorts k = given_sort sorts k s (subst (λ t. has_given_sorts sorts t ≡ true) named (second.follows m)) in
         let down : fits_place sig (sort_of sig ins (Var k s)) (sorts m) ≡ true = subst (λ t. fits_place sig (sort_of sig ins t) (sorts m) ≡ true) named (second.unifier.fitting m valid) in
         let valid_too : s.0 < length sig.sorts = sort_of-valid sig ins k s (place-some sig (sort_of sig ins (Var k s)) (sorts m) down) in
         let below : fits sig s (sorts m) ≡ true = sym (ap (λ o. fits_place sig o (sorts m)) (sort_of-variable sig ins k s valid_too)) ∙ down in
@@ -130,7 +130,7 @@ left-bound sig ins n m s apart =
     let w : Term = Var m s in
     let other : (n == m) ≡ false = fails (n == m) (λ e. apart (number_is n m e)) in
     let differ : same_term v w ≡ false = same_term-Var n s w ∙ (ap (is_same_var n s) (outs-Var m s) ∙ ap (λ b. b && s.0 == s.0) other) in
-    let out : occurs n w ≡ false = occurs-Var n m s ∙ other in
+    let out : number_occurs n w ≡ false = number_occurs-Var n m s ∙ other in
     mgu-more sig ins (v, w) []
     ∙ (ap (λ b. if b then M [] else open_pair sig ins M M v w (out-Term v) (out-Term w) []) differ
     ∙ (ap (λ x. open_pair sig ins M M v w x (out-Term w) []) (outs-Var n s)

@@ -17,13 +17,13 @@ use Rattle.am_term.proofs.Alike.{same_term-refl, same_term-sound}
 use Rattle.am_term.proofs.Forest.{fits-comparable, fits-same, same_sort-same}
 use Rattle.am_term.proofs.Tests.{or_cases, and_left, and_right, and_both, fails}
 use Rattle.am_unify.specs.Mgu.{Solver, bind, bind_term, bind_variable, decompose, open_pair, mgu_step, mgu}
-use Rattle.am_unify.specs.Occurrence.{occurs, occurs-Var, occurs-In, occurs_in, follows, follows-Var}
+use Rattle.am_unify.specs.Occurrence.{number_occurs, number_occurs-Var, number_occurs-In, number_occurs_in, has_given_sorts, has_given_sorts-Var}
 use Rattle.am_unify.specs.Substitution.{Substitution, apply, applies, apply-Var, apply-In, apply-App, bound_to, listed, insert_binding, after_binding, replace, replace_in}
-use Rattle.am_unify.specs.Unifier.{IsPosed, ArePosed, IsFitting, Unifies, IsUnifier, HasNoUnifier, IsWithin, IsSolution, IsSolved}
+use Rattle.am_unify.specs.Unifier.{IsSortedUnder, AreSortedUnder, IsFitting, Unifies, IsUnifier, HasNoUnifier, IsWithin, IsSolution, IsSolved}
 use Rattle.am_unify.proofs.Standing.{IsInside, number_same, number_is, stands_left, stands_right, stands_later, replaced_gone}
 use Rattle.am_unify.proofs.Smaller.{IsShorter, HasFewer, rest-shorter, arguments-shorter, bound-fewer, pairs_induct}
 use Rattle.am_unify.proofs.Steps.{is_var, is_in, is_app, var_stands, mgu-none, mgu-more}
-use Rattle.am_unify.proofs.Instances.{Source, apply-compose, apply-agree, follows-apply, occurs-apply, occurs-clash, replace-solved, bound-insert, all-insert, rising-insert}
+use Rattle.am_unify.proofs.Instances.{Source, apply-compose, apply-agree, has_given_sorts-apply, number_occurs-apply, number_occurs-clash, replace-solved, bound-insert, all-insert, rising-insert}
 use Rattle.am_unify.proofs.Keeping.{variable-fits, arguments-posed, zip-posed, posed_sort, posed_valid, sort-kept, app-kept, in-kept, replaced-posed}
 
 never : {A : Type 0} → false ≡ true → A
@@ -37,11 +37,11 @@ within_more : (qs ps : List (Term × Term)) → IsInside qs ps → (b : ℕ × T
 within_more qs ps h b k = record { bound = h.inside b.0 k.bound; inner = λ n e. h.inside n (k.inner n e) }
 
 -- a variable in what a list of bindings gives is the one asked for, or one of the pairs
-listed-inner : (qs : List (Term × Term)) (m k : ℕ) (s : SortId) (bs : List (ℕ × Term)) → AllByRecursion (IsWithin qs) bs → occurs m (listed bs k s) ≡ true → (m ≡ k) ⊎ (occurs_in m qs ≡ true)
-listed-inner qs m k s [] h e = inl (number_is m k (sym (occurs-Var m k s) ∙ e))
+listed-inner : (qs : List (Term × Term)) (m k : ℕ) (s : SortId) (bs : List (ℕ × Term)) → AllByRecursion (IsWithin qs) bs → number_occurs m (listed bs k s) ≡ true → (m ≡ k) ⊎ (number_occurs_in m qs ≡ true)
+listed-inner qs m k s [] h e = inl (number_is m k (sym (number_occurs-Var m k s) ∙ e))
 listed-inner qs m k s (b ∷ bs) h e = by_test (listed-inner qs m k s bs h.1) (b.0 == k) e
   where
-    by_test : (occurs m (listed bs k s) ≡ true → (m ≡ k) ⊎ (occurs_in m qs ≡ true)) → (c : Bool) → occurs m (if c then b.1 else bound_to bs k (Var k s)) ≡ true → (m ≡ k) ⊎ (occurs_in m qs ≡ true)
+    by_test : (number_occurs m (listed bs k s) ≡ true → (m ≡ k) ⊎ (number_occurs_in m qs ≡ true)) → (c : Bool) → number_occurs m (if c then b.1 else bound_to bs k (Var k s)) ≡ true → (m ≡ k) ⊎ (number_occurs_in m qs ≡ true)
     by_test rest true d = inr (h.0.inner m d)
     by_test rest false d = rest d
 
@@ -93,8 +93,8 @@ module _ (sig : Signature) (ins : List SortId) (sorts : ℕ → SortId) where
   swapped : (t u : Term) (ps : List (Term × Term)) (o : Option (List (ℕ × Term))) → IsSolved sig ins sorts ((u, t) ∷ ps) o → IsSolved sig ins sorts ((t, u) ∷ ps) o
   swapped t u ps = moved ((u, t) ∷ ps) ((t, u) ∷ ps) (λ θ h. (sym h.0, h.1)) (λ θ h. (sym h.0, h.1))
       (record {
-        inside = λ n e. elim (or_cases (occurs n u || occurs n t) (occurs_in n ps) e) [
-          | inl d ↦ elim (or_cases (occurs n u) (occurs n t) d) [
+        inside = λ n e. elim (or_cases (number_occurs n u || number_occurs n t) (number_occurs_in n ps) e) [
+          | inl d ↦ elim (or_cases (number_occurs n u) (number_occurs n t) d) [
             | inl c ↦ stands_right n t u ps c
             | inr c ↦ stands_left n t u ps c
           ]
@@ -103,16 +103,16 @@ module _ (sig : Signature) (ins : List SortId) (sorts : ℕ → SortId) where
       })
 
   -- what factors at variables factors at terms
-  pub factors-term : (θ σ : Substitution) → ((n : ℕ) → apply θ (σ n (sorts n)) ≡ θ n (sorts n)) → (t : Term) → follows sorts t ≡ true → apply θ (apply σ t) ≡ apply θ t
+  pub factors-term : (θ σ : Substitution) → ((n : ℕ) → apply θ (σ n (sorts n)) ≡ θ n (sorts n)) → (t : Term) → has_given_sorts sorts t ≡ true → apply θ (apply σ t) ≡ apply θ t
   factors-term θ σ h t f = apply-compose θ σ t ∙ apply-agree sorts (λ n s. apply θ (σ n s)) θ t f (λ n o. h n)
 
   -- one binding and then a solution of what is left
-  module _ (n : ℕ) (t : Term) (ps : List (Term × Term)) (posed : IsPosed sig ins sorts t) (fit : fits_place sig (sort_of sig ins t) (sorts n) ≡ true)
-      (out : occurs n t ≡ false) (others : ArePosed sig ins sorts ps) where
+  module _ (n : ℕ) (t : Term) (ps : List (Term × Term)) (posed : IsSortedUnder sig ins sorts t) (fit : fits_place sig (sort_of sig ins t) (sorts n) ≡ true)
+      (out : number_occurs n t ≡ false) (others : AreSortedUnder sig ins sorts ps) where
     abbrev All : List (Term × Term)
     All = (Var n (sorts n), t) ∷ ps
 
-    solved_replaced : (θ : Substitution) → θ n (sorts n) ≡ apply θ t → (qs : List (Term × Term)) → ArePosed sig ins sorts qs → Unifies θ qs → Unifies θ (replace_in n t qs)
+    solved_replaced : (θ : Substitution) → θ n (sorts n) ≡ apply θ t → (qs : List (Term × Term)) → AreSortedUnder sig ins sorts qs → Unifies θ qs → Unifies θ (replace_in n t qs)
     solved_replaced θ is [] h u = tt
     solved_replaced θ is (p ∷ qs) h u = (
       replace-solved sorts θ n t is p.0 h.0.0.follows ∙ (u.0 ∙ sym (replace-solved sorts θ n t is p.1 h.0.1.follows)),
@@ -128,8 +128,8 @@ module _ (sig : Signature) (ins : List SortId) (sorts : ℕ → SortId) where
     is_fewer : HasFewer (replace_in n t ps) All
     is_fewer = bound-fewer (Var n (sorts n)) t ps n t (stands_left n (Var n (sorts n)) t ps (var_stands n (Var n (sorts n)) (sorts n) refl)) (λ m e. stands_right m (Var n (sorts n)) t ps e) out
 
-    different : (m : ℕ) → occurs m t ≡ true → (n == m) ≡ false
-    different m o = fails (n == m) (λ e. true≢false (sym (subst (λ x. occurs x t ≡ true) (sym (number_is n m e)) o) ∙ out))
+    different : (m : ℕ) → number_occurs m t ≡ true → (n == m) ≡ false
+    different m o = fails (n == m) (λ e. true≢false (sym (subst (λ x. number_occurs x t ≡ true) (sym (number_is n m e)) o) ∙ out))
 
     module _ (bs : List (ℕ × Term)) (sol : IsSolution sig ins sorts bs (replace_in n t ps)) where
       abbrev Old : Substitution
@@ -147,7 +147,7 @@ module _ (sig : Signature) (ins : List SortId) (sorts : ℕ → SortId) where
       new-other : (m : ℕ) (r : SortId) → (n == m) ≡ false → New m r ≡ Old m r
       new-other m r e = new-at m r ∙ ap (λ b. if b then apply Old t else Old m r) e
 
-      new-apply : (v : Term) → follows sorts v ≡ true → apply New v ≡ apply Old (replace n t v)
+      new-apply : (v : Term) → has_given_sorts sorts v ≡ true → apply New v ≡ apply Old (replace n t v)
       unfolding replace
       new-apply v f = apply-agree sorts New (λ m r. apply Old (listed ((n, t) ∷ []) m r)) v f (λ m o. new-at m (sorts m) ∙ by_test m (n == m)) ∙ sym (apply-compose Old (listed ((n, t) ∷ [])) v)
         where
@@ -158,7 +158,7 @@ module _ (sig : Signature) (ins : List SortId) (sorts : ℕ → SortId) where
       new-term : apply New t ≡ apply Old t
       new-term = apply-agree sorts New Old t posed.follows (λ m o. new-other m (sorts m) (different m o))
 
-      new-unifies : (qs : List (Term × Term)) → ArePosed sig ins sorts qs → Unifies Old (replace_in n t qs) → Unifies New qs
+      new-unifies : (qs : List (Term × Term)) → AreSortedUnder sig ins sorts qs → Unifies Old (replace_in n t qs) → Unifies New qs
       new-unifies [] h u = tt
       new-unifies (p ∷ qs) h u = (
         new-apply p.0 h.0.0.follows ∙ (u.0 ∙ sym (new-apply p.1 h.0.1.follows)),
@@ -173,11 +173,11 @@ module _ (sig : Signature) (ins : List SortId) (sorts : ℕ → SortId) where
               (sort-kept sig ins sorts Old sol.most_general.unifier.fitting t posed.follows (sorts n) fit)
           by_test false is = sol.most_general.unifier.fitting m valid
 
-      new-follows : (m : ℕ) → follows sorts (New m (sorts m)) ≡ true
-      new-follows m = ap (follows sorts) (new-at m (sorts m)) ∙ by_test (n == m)
+      new-given_sorts : (m : ℕ) → has_given_sorts sorts (New m (sorts m)) ≡ true
+      new-given_sorts m = ap (has_given_sorts sorts) (new-at m (sorts m)) ∙ by_test (n == m)
         where
-          by_test : (b : Bool) → follows sorts (if b then apply Old t else Old m (sorts m)) ≡ true
-          by_test true = follows-apply sorts Old sol.most_general.follows t posed.follows
+          by_test : (b : Bool) → has_given_sorts sorts (if b then apply Old t else Old m (sorts m)) ≡ true
+          by_test true = has_given_sorts-apply sorts Old sol.most_general.follows t posed.follows
           by_test false = sol.most_general.follows m
 
       new-factors : (θ : Substitution) → IsUnifier sig ins sorts θ All → (m : ℕ) → apply θ (New m (sorts m)) ≡ θ m (sorts m)
@@ -188,13 +188,13 @@ module _ (sig : Signature) (ins : List SortId) (sorts : ℕ → SortId) where
           by_test false is = sol.most_general.factors θ (left_unified θ u) m
 
       not_bound : (b : ℕ × Term) → IsWithin (replace_in n t ps) b → (n == b.0) ≡ false
-      not_bound b h = fails (n == b.0) (λ e. true≢false (sym (subst (λ x. occurs_in x (replace_in n t ps) ≡ true) (sym (number_is n b.0 e)) h.bound) ∙ replaced_gone n t ps out))
+      not_bound b h = fails (n == b.0) (λ e. true≢false (sym (subst (λ x. number_occurs_in x (replace_in n t ps) ≡ true) (sym (number_is n b.0 e)) h.bound) ∙ replaced_gone n t ps out))
 
-      new-inner : (m : ℕ) → occurs m (apply Old t) ≡ true → occurs_in m All ≡ true
+      new-inner : (m : ℕ) → number_occurs m (apply Old t) ≡ true → number_occurs_in m All ≡ true
       new-inner m e =
-          let from : Source sorts Old m (λ k. occurs k t) = occurs-apply sorts Old m t posed.follows e in
+          let from : Source sorts Old m (λ k. number_occurs k t) = number_occurs-apply sorts Old m t posed.follows e in
           elim (listed-inner (replace_in n t ps) m from.from (sorts from.from) bs sol.within from.brings) [
-            | inl is ↦ stands_right m (Var n (sorts n)) t ps (subst (λ x. occurs x t ≡ true) (sym is) from.stands)
+            | inl is ↦ stands_right m (Var n (sorts n)) t ps (subst (λ x. number_occurs x t ≡ true) (sym is) from.stands)
             | inr d ↦ is_fewer.inside.inside m d
           ]
 
@@ -205,7 +205,7 @@ module _ (sig : Signature) (ins : List SortId) (sorts : ℕ → SortId) where
             fitting = new-fits;
             unifies = (apply-Var New n (sorts n) ∙ (new-here (sorts n) ∙ sym new-term), new-unifies ps others sol.most_general.unifier.unifies);
           };
-          follows = new-follows;
+          follows = new-given_sorts;
           factors = new-factors;
         };
         rising = rising-insert n (apply Old t) bs (all_map (IsWithin (replace_in n t ps)) (λ (c : ℕ × Term). (n == c.0) ≡ false) not_bound bs sol.within) sol.rising;
@@ -221,33 +221,33 @@ module _ (sig : Signature) (ins : List SortId) (sorts : ℕ → SortId) where
   -- a term that is no variable: its sort stays, and it is larger than what stands in it
   record IsOther (t : Term) : Type 0 where
     kept : (θ : Substitution) → IsFitting sig ins sorts θ → sort_of sig ins (apply θ t) ≡ sort_of sig ins t
-    proper : (n : ℕ) (θ : Substitution) → occurs n t ≡ true → θ n (sorts n) ≡ apply θ t → ⊥
+    proper : (n : ℕ) (θ : Substitution) → number_occurs n t ≡ true → θ n (sorts n) ≡ apply θ t → ⊥
 
   other-in : (k : ℕ) → IsOther (In k)
   other-in k = record {
     kept = λ θ fit. in-kept sig ins sorts θ fit k;
-    proper = λ n θ e is. never (sym (occurs-In n k) ∙ e);
+    proper = λ n θ e is. never (sym (number_occurs-In n k) ∙ e);
   }
 
-  other-app : (f : SymId) (args : List Term) → IsPosed sig ins sorts (App f args) → IsOther (App f args)
+  other-app : (f : SymId) (args : List Term) → IsSortedUnder sig ins sorts (App f args) → IsOther (App f args)
   other-app f args h = record {
     kept = λ θ fit. app-kept sig ins sorts θ fit f args h;
-    proper = λ n θ e is. occurs-clash sorts θ n f args h.follows e is;
+    proper = λ n θ e is. number_occurs-clash sorts θ n f args h.follows e is;
   }
 
   module _ (go : Solver) where
-    bind-solved : (n : ℕ) (v : Term) (ps : List (Term × Term)) → IsPosed sig ins sorts v → fits_place sig (sort_of sig ins v) (sorts n) ≡ true
-        → (occurs n v ≡ true → HasNoUnifier sig ins sorts ((Var n (sorts n), v) ∷ ps))
-        → ArePosed sig ins sorts ps → (occurs n v ≡ false → IsSolved sig ins sorts (replace_in n v ps) (go (replace_in n v ps)))
+    bind-solved : (n : ℕ) (v : Term) (ps : List (Term × Term)) → IsSortedUnder sig ins sorts v → fits_place sig (sort_of sig ins v) (sorts n) ≡ true
+        → (number_occurs n v ≡ true → HasNoUnifier sig ins sorts ((Var n (sorts n), v) ∷ ps))
+        → AreSortedUnder sig ins sorts ps → (number_occurs n v ≡ false → IsSolved sig ins sorts (replace_in n v ps) (go (replace_in n v ps)))
         → IsSolved sig ins sorts ((Var n (sorts n), v) ∷ ps) (bind sig ins go go n v ps)
-    bind-solved n v ps posed fit clash others h = by_test (occurs n v) refl
+    bind-solved n v ps posed fit clash others h = by_test (number_occurs n v) refl
       where
-        by_test : (b : Bool) → occurs n v ≡ b → IsSolved sig ins sorts ((Var n (sorts n), v) ∷ ps) (if b then None else after_binding n v (go (replace_in n v ps)))
+        by_test : (b : Bool) → number_occurs n v ≡ b → IsSolved sig ins sorts ((Var n (sorts n), v) ∷ ps) (if b then None else after_binding n v (go (replace_in n v ps)))
         by_test true e = clash e
         by_test false e = bound-solved n v ps posed fit e others (go (replace_in n v ps)) (h e)
 
-    term-solved : (n : ℕ) (v : Term) (ps : List (Term × Term)) → (sorts n).0 < length sig.sorts → IsPosed sig ins sorts v → IsOther v
-        → ArePosed sig ins sorts ps → (fits_place sig (sort_of sig ins v) (sorts n) ≡ true → occurs n v ≡ false → IsSolved sig ins sorts (replace_in n v ps) (go (replace_in n v ps)))
+    term-solved : (n : ℕ) (v : Term) (ps : List (Term × Term)) → (sorts n).0 < length sig.sorts → IsSortedUnder sig ins sorts v → IsOther v
+        → AreSortedUnder sig ins sorts ps → (fits_place sig (sort_of sig ins v) (sorts n) ≡ true → number_occurs n v ≡ false → IsSolved sig ins sorts (replace_in n v ps) (go (replace_in n v ps)))
         → IsSolved sig ins sorts ((Var n (sorts n), v) ∷ ps) (bind_term sig ins go go n (sorts n) v ps)
     term-solved n v ps valid posed other others h = by_test (fits_place sig (sort_of sig ins v) (sorts n)) refl
       where
@@ -257,10 +257,10 @@ module _ (sig : Signature) (ins : List SortId) (sorts : ℕ → SortId) where
             let is : θ n (sorts n) ≡ apply θ v = sym (apply-Var θ n (sorts n)) ∙ u.unifies.0 in
             true≢false (sym (u.fitting n valid) ∙ (ap (λ x. fits_place sig (sort_of sig ins x) (sorts n)) is ∙ (ap (λ o. fits_place sig o (sorts n)) (other.kept θ u.fitting) ∙ e)))
 
-    variable-solved : (n m : ℕ) (ps : List (Term × Term)) → (n == m) ≡ false → IsPosed sig ins sorts (Var n (sorts n)) → IsPosed sig ins sorts (Var m (sorts m))
-        → ArePosed sig ins sorts ps
-        → (fits_place sig (sort_of sig ins (Var m (sorts m))) (sorts n) ≡ true → occurs n (Var m (sorts m)) ≡ false → IsSolved sig ins sorts (replace_in n (Var m (sorts m)) ps) (go (replace_in n (Var m (sorts m)) ps)))
-        → (fits_place sig (sort_of sig ins (Var n (sorts n))) (sorts m) ≡ true → occurs m (Var n (sorts n)) ≡ false → IsSolved sig ins sorts (replace_in m (Var n (sorts n)) ps) (go (replace_in m (Var n (sorts n)) ps)))
+    variable-solved : (n m : ℕ) (ps : List (Term × Term)) → (n == m) ≡ false → IsSortedUnder sig ins sorts (Var n (sorts n)) → IsSortedUnder sig ins sorts (Var m (sorts m))
+        → AreSortedUnder sig ins sorts ps
+        → (fits_place sig (sort_of sig ins (Var m (sorts m))) (sorts n) ≡ true → number_occurs n (Var m (sorts m)) ≡ false → IsSolved sig ins sorts (replace_in n (Var m (sorts m)) ps) (go (replace_in n (Var m (sorts m)) ps)))
+        → (fits_place sig (sort_of sig ins (Var n (sorts n))) (sorts m) ≡ true → number_occurs m (Var n (sorts n)) ≡ false → IsSolved sig ins sorts (replace_in m (Var n (sorts n)) ps) (go (replace_in m (Var n (sorts n)) ps)))
         → IsSolved sig ins sorts ((Var n (sorts n), Var m (sorts m)) ∷ ps) (bind_variable sig ins go go n (sorts n) m (sorts m) ps)
     variable-solved n m ps apart left right others h k = by_test (fits sig (sorts m) (sorts n)) (fits sig (sorts n) (sorts m)) refl refl
       where
@@ -277,11 +277,11 @@ module _ (sig : Signature) (ins : List SortId) (sorts : ℕ → SortId) where
             → IsSolved sig ins sorts ((Var n (sorts n), Var m (sorts m)) ∷ ps) (if a then bind sig ins go go n (Var m (sorts m)) ps else if b then bind sig ins go go m (Var n (sorts n)) ps else None)
         by_test true b e f =
             let fit : fits_place sig (sort_of sig ins (Var m (sorts m))) (sorts n) ≡ true = variable-fits sig ins m (sorts m) (sorts n) valid_m e in
-            bind-solved n (Var m (sorts m)) ps right fit (λ d. never (sym apart ∙ (sym (occurs-Var n m (sorts m)) ∙ d))) others (h fit)
+            bind-solved n (Var m (sorts m)) ps right fit (λ d. never (sym apart ∙ (sym (number_occurs-Var n m (sorts m)) ∙ d))) others (h fit)
         by_test false true e f =
             let fit : fits_place sig (sort_of sig ins (Var n (sorts n))) (sorts m) ≡ true = variable-fits sig ins n (sorts n) (sorts m) valid_n f in
             swapped (Var n (sorts n)) (Var m (sorts m)) ps (bind sig ins go go m (Var n (sorts n)) ps)
-            (bind-solved m (Var n (sorts n)) ps left fit (λ d. never (sym apart_too ∙ (sym (occurs-Var m n (sorts n)) ∙ d))) others (k fit))
+            (bind-solved m (Var n (sorts n)) ps left fit (λ d. never (sym apart_too ∙ (sym (number_occurs-Var m n (sorts n)) ∙ d))) others (k fit))
         by_test false false e f = λ θ u.
             let is : θ m (sorts m) ≡ θ n (sorts n) = sym (apply-Var θ m (sorts m)) ∙ (sym u.unifies.0 ∙ apply-Var θ n (sorts n)) in
             elim (place-comparable sig (sort_of sig ins (θ n (sorts n))) (sorts n) (sorts m) (u.fitting n valid_n) (subst (λ x. fits_place sig (sort_of sig ins x) (sorts m) ≡ true) is (u.fitting m valid_m))) [
@@ -290,27 +290,27 @@ module _ (sig : Signature) (ins : List SortId) (sorts : ℕ → SortId) where
             ]
 
     -- one step
-    module _ (t u : Term) (ps : List (Term × Term)) (left : IsPosed sig ins sorts t) (right : IsPosed sig ins sorts u) (others : ArePosed sig ins sorts ps)
-        (short : (qs : List (Term × Term)) → IsShorter qs ((t, u) ∷ ps) → ArePosed sig ins sorts qs → IsSolved sig ins sorts qs (go qs))
-        (few : (qs : List (Term × Term)) → HasFewer qs ((t, u) ∷ ps) → ArePosed sig ins sorts qs → IsSolved sig ins sorts qs (go qs)) where
+    module _ (t u : Term) (ps : List (Term × Term)) (left : IsSortedUnder sig ins sorts t) (right : IsSortedUnder sig ins sorts u) (others : AreSortedUnder sig ins sorts ps)
+        (short : (qs : List (Term × Term)) → IsShorter qs ((t, u) ∷ ps) → AreSortedUnder sig ins sorts qs → IsSolved sig ins sorts qs (go qs))
+        (few : (qs : List (Term × Term)) → HasFewer qs ((t, u) ∷ ps) → AreSortedUnder sig ins sorts qs → IsSolved sig ins sorts qs (go qs)) where
       -- after a variable of the one side became the other side
-      left-few : (n : ℕ) (s : SortId) → t ≡ Var n s → fits_place sig (sort_of sig ins u) (sorts n) ≡ true → occurs n u ≡ false → IsSolved sig ins sorts (replace_in n u ps) (go (replace_in n u ps))
+      left-few : (n : ℕ) (s : SortId) → t ≡ Var n s → fits_place sig (sort_of sig ins u) (sorts n) ≡ true → number_occurs n u ≡ false → IsSolved sig ins sorts (replace_in n u ps) (go (replace_in n u ps))
       left-few n s is fit out = few (replace_in n u ps) (bound-fewer t u ps n u (stands_left n t u ps (var_stands n t s is)) (λ m e. stands_right m t u ps e) out) (replaced-posed sig ins sorts n u right fit ps others)
 
-      right-few : (n : ℕ) (s : SortId) → u ≡ Var n s → fits_place sig (sort_of sig ins t) (sorts n) ≡ true → occurs n t ≡ false → IsSolved sig ins sorts (replace_in n t ps) (go (replace_in n t ps))
+      right-few : (n : ℕ) (s : SortId) → u ≡ Var n s → fits_place sig (sort_of sig ins t) (sorts n) ≡ true → number_occurs n t ≡ false → IsSolved sig ins sorts (replace_in n t ps) (go (replace_in n t ps))
       right-few n s is fit out = few (replace_in n t ps) (bound-fewer t u ps n t (stands_right n t u ps (var_stands n u s is)) (λ m e. stands_left m t u ps e) out) (replaced-posed sig ins sorts n t left fit ps others)
 
       left_sort : (n : ℕ) (s : SortId) → t ≡ Var n s → s ≡ sorts n
-      left_sort n s is = posed_sort sig ins sorts n s (subst (IsPosed sig ins sorts) is left)
+      left_sort n s is = posed_sort sig ins sorts n s (subst (IsSortedUnder sig ins sorts) is left)
 
       right_sort : (n : ℕ) (s : SortId) → u ≡ Var n s → s ≡ sorts n
-      right_sort n s is = posed_sort sig ins sorts n s (subst (IsPosed sig ins sorts) is right)
+      right_sort n s is = posed_sort sig ins sorts n s (subst (IsSortedUnder sig ins sorts) is right)
 
       left-term : (n : ℕ) (s : SortId) → t ≡ Var n s → IsOther u → IsSolved sig ins sorts ((t, u) ∷ ps) (bind_term sig ins go go n s u ps)
       left-term n s is other =
           let sort : s ≡ sorts n = left_sort n s is in
           let named : Var n (sorts n) ≡ t = ap (Var n) (sym sort) ∙ sym is in
-          let valid : (sorts n).0 < length sig.sorts = posed_valid sig ins sorts n (sorts n) (subst (IsPosed sig ins sorts) (sym named) left) in
+          let valid : (sorts n).0 < length sig.sorts = posed_valid sig ins sorts n (sorts n) (subst (IsSortedUnder sig ins sorts) (sym named) left) in
           subst (λ r. IsSolved sig ins sorts ((t, u) ∷ ps) (bind_term sig ins go go n r u ps)) (sym sort)
           (subst (λ x. IsSolved sig ins sorts ((x, u) ∷ ps) (bind_term sig ins go go n (sorts n) u ps)) named
           (term-solved n u ps valid right other others (left-few n s is)))
@@ -319,7 +319,7 @@ module _ (sig : Signature) (ins : List SortId) (sorts : ℕ → SortId) where
       right-term n s is other =
           let sort : s ≡ sorts n = right_sort n s is in
           let named : Var n (sorts n) ≡ u = ap (Var n) (sym sort) ∙ sym is in
-          let valid : (sorts n).0 < length sig.sorts = posed_valid sig ins sorts n (sorts n) (subst (IsPosed sig ins sorts) (sym named) right) in
+          let valid : (sorts n).0 < length sig.sorts = posed_valid sig ins sorts n (sorts n) (subst (IsSortedUnder sig ins sorts) (sym named) right) in
           subst (λ r. IsSolved sig ins sorts ((t, u) ∷ ps) (bind_term sig ins go go n r t ps)) (sym sort)
           (subst (λ x. IsSolved sig ins sorts ((t, x) ∷ ps) (bind_term sig ins go go n (sorts n) t ps)) named
           (swapped t (Var n (sorts n)) ps (bind_term sig ins go go n (sorts n) t ps)
@@ -338,9 +338,9 @@ module _ (sig : Signature) (ins : List SortId) (sorts : ℕ → SortId) where
           (subst (λ x. IsSolved sig ins sorts ((t, u) ∷ ps) (bind_variable sig ins go go n (sorts n) m x ps)) (sym sort_too)
           (subst (λ x. IsSolved sig ins sorts ((x, u) ∷ ps) (bind_variable sig ins go go n (sorts n) m (sorts m) ps)) named
           (subst (λ x. IsSolved sig ins sorts ((Var n (sorts n), x) ∷ ps) (bind_variable sig ins go go n (sorts n) m (sorts m) ps)) named_too
-          (variable-solved n m ps apart (subst (IsPosed sig ins sorts) (sym named) left) (subst (IsPosed sig ins sorts) (sym named_too) right) others
-          (subst (λ x. fits_place sig (sort_of sig ins x) (sorts n) ≡ true → occurs n x ≡ false → IsSolved sig ins sorts (replace_in n x ps) (go (replace_in n x ps))) (sym named_too) (left-few n s is))
-          (subst (λ x. fits_place sig (sort_of sig ins x) (sorts m) ≡ true → occurs m x ≡ false → IsSolved sig ins sorts (replace_in m x ps) (go (replace_in m x ps))) (sym named) (right-few m r are))))))
+          (variable-solved n m ps apart (subst (IsSortedUnder sig ins sorts) (sym named) left) (subst (IsSortedUnder sig ins sorts) (sym named_too) right) others
+          (subst (λ x. fits_place sig (sort_of sig ins x) (sorts n) ≡ true → number_occurs n x ≡ false → IsSolved sig ins sorts (replace_in n x ps) (go (replace_in n x ps))) (sym named_too) (left-few n s is))
+          (subst (λ x. fits_place sig (sort_of sig ins x) (sorts m) ≡ true → number_occurs m x ≡ false → IsSolved sig ins sorts (replace_in m x ps) (go (replace_in m x ps))) (sym named) (right-few m r are))))))
 
       -- other heads have no unifier
       heads-clash : (k : ℕ) (g : SymId) (bs : List Term) (x y : Term) → x ≡ In k → y ≡ App g bs → (θ : Substitution) → apply θ x ≡ apply θ y → ⊥
@@ -368,7 +368,7 @@ module _ (sig : Signature) (ins : List SortId) (sorts : ℕ → SortId) where
               (let s : IsShorter (zip as_ bs ++ ps) ((t, u) ∷ ps) = arguments-shorter t u ps f g as_ bs is are in s.inside)
               (go (zip as_ bs ++ ps))
               (short (zip as_ bs ++ ps) (arguments-shorter t u ps f g as_ bs is are)
-              (zip-posed sig ins sorts as_ bs ps (arguments-posed sig ins sorts f as_ (subst (IsPosed sig ins sorts) is left)) (arguments-posed sig ins sorts g bs (subst (IsPosed sig ins sorts) are right)) others))
+              (zip-posed sig ins sorts as_ bs ps (arguments-posed sig ins sorts f as_ (subst (IsSortedUnder sig ins sorts) is left)) (arguments-posed sig ins sorts g bs (subst (IsSortedUnder sig ins sorts) are right)) others))
           by_test false e = λ θ h.
               let k : AreAlike f g (applies θ as_) (applies θ bs) = applied_alike f g as_ bs is are θ h.unifies.0 in
               let symbols : f.0 ≡ g.0 = ap (λ (x : SymId). x.0) k.symbols in
@@ -380,13 +380,13 @@ module _ (sig : Signature) (ins : List SortId) (sorts : ℕ → SortId) where
       open-solved (Term-F.Var n s) (Term-F.In j) is are other = left-term n s (is_var t n s is) (subst IsOther (sym (is_in u j are)) (other-in j))
       open-solved (Term-F.Var n s) (Term-F.App g bs) is are other =
           let e : u ≡ App g bs = is_app u g bs are in
-          left-term n s (is_var t n s is) (subst IsOther (sym e) (other-app g bs (subst (IsPosed sig ins sorts) e right)))
+          left-term n s (is_var t n s is) (subst IsOther (sym e) (other-app g bs (subst (IsSortedUnder sig ins sorts) e right)))
       open-solved (Term-F.In k) (Term-F.Var m r) is are other = right-term m r (is_var u m r are) (subst IsOther (sym (is_in t k is)) (other-in k))
       open-solved (Term-F.In k) (Term-F.In j) is are other = two-inputs k j (is_in t k is) (is_in u j are) other
       open-solved (Term-F.In k) (Term-F.App g bs) is are other = λ θ h. heads-clash k g bs t u (is_in t k is) (is_app u g bs are) θ h.unifies.0
       open-solved (Term-F.App f as_) (Term-F.Var m r) is are other =
           let e : t ≡ App f as_ = is_app t f as_ is in
-          right-term m r (is_var u m r are) (subst IsOther (sym e) (other-app f as_ (subst (IsPosed sig ins sorts) e left)))
+          right-term m r (is_var u m r are) (subst IsOther (sym e) (other-app f as_ (subst (IsSortedUnder sig ins sorts) e left)))
       open-solved (Term-F.App f as_) (Term-F.In j) is are other = λ θ h. heads-clash j f as_ u t (is_in u j are) (is_app t f as_ is) θ (sym h.unifies.0)
       open-solved (Term-F.App f as_) (Term-F.App g bs) is are other = two-applications f g as_ bs (is_app t f as_ is) (is_app u g bs are)
 
@@ -402,14 +402,14 @@ module _ (sig : Signature) (ins : List SortId) (sorts : ℕ → SortId) where
   none-solved = record {
     most_general = record {
       unifier = record { fitting = λ n valid. variable-fits sig ins n (sorts n) (sorts n) valid (fits-same sig (sorts n)); unifies = tt };
-      follows = λ n. follows-Var sorts n (sorts n) ∙ same_sort-same (sorts n);
+      follows = λ n. has_given_sorts-Var sorts n (sorts n) ∙ same_sort-same (sorts n);
       factors = λ θ u n. apply-Var θ n (sorts n);
     };
     rising = tt;
     within = tt;
   }
 
-  pub mgu-solved : (ps : List (Term × Term)) → ArePosed sig ins sorts ps → IsSolved sig ins sorts ps (mgu sig ins ps)
-  mgu-solved = pairs_induct (λ ps. ArePosed sig ins sorts ps → IsSolved sig ins sorts ps (mgu sig ins ps))
+  pub mgu-solved : (ps : List (Term × Term)) → AreSortedUnder sig ins sorts ps → IsSolved sig ins sorts ps (mgu sig ins ps)
+  mgu-solved = pairs_induct (λ ps. AreSortedUnder sig ins sorts ps → IsSolved sig ins sorts ps (mgu sig ins ps))
       (λ h. subst (IsSolved sig ins sorts []) (sym (mgu-none sig ins)) none-solved)
       (λ p ps short few h. subst (IsSolved sig ins sorts (p ∷ ps)) (sym (mgu-more sig ins p ps)) (step-solved (mgu sig ins) p.0 p.1 ps h.0.0 h.0.1 h.1 short few))

@@ -12,10 +12,10 @@ use Rattle.am_term.specs.Same.{same_term}
 use Rattle.am_term.specs.Sorts.{fits}
 use Rattle.am_term.specs.Sorting.{sort_of, fits_place}
 use Rattle.am_unify.specs.Mgu.{Solver, bind, bind_term, open_pair, mgu_step, mgu_within, mgu_to, mgu}
-use Rattle.am_unify.specs.Occurrence.{occurs, occurs-Var, occurs_in, variables}
+use Rattle.am_unify.specs.Occurrence.{number_occurs, number_occurs-Var, number_occurs_in, count_of_numbers}
 use Rattle.am_unify.specs.Size.{size}
 use Rattle.am_unify.specs.Substitution.{after_binding, replace_in}
-use Rattle.am_unify.proofs.Standing.{number_same, stands_left, stands_right, variables-le}
+use Rattle.am_unify.proofs.Standing.{number_same, stands_left, stands_right, count_of_numbers-le}
 use Rattle.am_unify.proofs.Smaller.{IsShorter, HasFewer, nodes-positive, size-cons, rest-shorter, arguments-shorter, bound-fewer}
 
 pub is_var : (t : Term) (n : ℕ) (s : SortId) → out-Term t ≡ Term-F.Var n s → t ≡ Var n s
@@ -31,15 +31,15 @@ if_same : {A : Type 0} (c : Bool) (x y z w : A) → (c ≡ true → x ≡ z) →
 if_same true x y z w h k = h refl
 if_same false x y z w h k = k refl
 
-pub var_stands : (n : ℕ) (t : Term) (s : SortId) → t ≡ Var n s → occurs n t ≡ true
-var_stands n t s is = ap (occurs n) is ∙ (occurs-Var n n s ∙ number_same n)
+pub var_stands : (n : ℕ) (t : Term) (s : SortId) → t ≡ Var n s → number_occurs n t ≡ true
+var_stands n t s is = ap (number_occurs n) is ∙ (number_occurs-Var n n s ∙ number_same n)
 
 -- a step depends on the recursion at smaller pairs alone
 module _ (sig : Signature) (ins : List SortId) (b c r q : Solver) (t u : Term) (ps : List (Term × Term))
     (bounds : (qs : List (Term × Term)) → HasFewer qs ((t, u) ∷ ps) → b qs ≡ c qs)
     (rests : (qs : List (Term × Term)) → IsShorter qs ((t, u) ∷ ps) → r qs ≡ q qs) where
-  bind-same : (n : ℕ) (v : Term) → occurs_in n ((t, u) ∷ ps) ≡ true → ((m : ℕ) → occurs m v ≡ true → occurs_in m ((t, u) ∷ ps) ≡ true) → bind sig ins b r n v ps ≡ bind sig ins c q n v ps
-  bind-same n v stands inner = if_same (occurs n v) None (after_binding n v (b (replace_in n v ps))) None (after_binding n v (c (replace_in n v ps)))
+  bind-same : (n : ℕ) (v : Term) → number_occurs_in n ((t, u) ∷ ps) ≡ true → ((m : ℕ) → number_occurs m v ≡ true → number_occurs_in m ((t, u) ∷ ps) ≡ true) → bind sig ins b r n v ps ≡ bind sig ins c q n v ps
+  bind-same n v stands inner = if_same (number_occurs n v) None (after_binding n v (b (replace_in n v ps))) None (after_binding n v (c (replace_in n v ps)))
       (λ e. refl)
       (λ e. ap (after_binding n v) (bounds (replace_in n v ps) (bound-fewer t u ps n v stands inner e)))
 
@@ -79,17 +79,17 @@ module _ (sig : Signature) (ins : List SortId) (b c r q : Solver) (t u : Term) (
 
 module _ (sig : Signature) (ins : List SortId) where
   -- the steps that are counted are enough
-  within-enough : (b c : Solver) (m k : ℕ) (ps : List (Term × Term)) → ((qs : List (Term × Term)) → variables qs < variables ps → b qs ≡ c qs) → size ps ≤ m → size ps ≤ k → mgu_within sig ins b m ps ≡ mgu_within sig ins c k ps
+  within-enough : (b c : Solver) (m k : ℕ) (ps : List (Term × Term)) → ((qs : List (Term × Term)) → count_of_numbers qs < count_of_numbers ps → b qs ≡ c qs) → size ps ≤ m → size ps ≤ k → mgu_within sig ins b m ps ≡ mgu_within sig ins c k ps
   within-enough b c m k [] h l j = refl
   within-enough b c zero k (p ∷ ps) h l j = let a = nodes-positive p.0 in absurd (omega (arith, size-cons p.0 p.1 ps))
   within-enough b c (suc m) zero (p ∷ ps) h l j = let a = nodes-positive p.0 in absurd (omega (arith, size-cons p.0 p.1 ps))
   within-enough b c (suc m) (suc k) (p ∷ ps) h l j = step-same sig ins b c (mgu_within sig ins b m) (mgu_within sig ins c k) p.0 p.1 ps
       (λ qs d. h qs d.fewer)
-      (λ qs d. let a = variables-le qs (p ∷ ps) d.inside in let z = d.size in
+      (λ qs d. let a = count_of_numbers-le qs (p ∷ ps) d.inside in let z = d.size in
       within-enough b c m k qs (λ rs e. h rs (omega arith)) (omega arith) (omega arith))
 
   -- the bindings that are counted are enough
-  to-enough : (n m : ℕ) (ps : List (Term × Term)) → variables ps < n → variables ps < m → mgu_to sig ins n ps ≡ mgu_to sig ins m ps
+  to-enough : (n m : ℕ) (ps : List (Term × Term)) → count_of_numbers ps < n → count_of_numbers ps < m → mgu_to sig ins n ps ≡ mgu_to sig ins m ps
   to-enough zero m ps h k = absurd (omega arith)
   to-enough (suc n) zero ps h k = absurd (omega arith)
   to-enough (suc n) (suc m) ps h k = within-enough (mgu_to sig ins n) (mgu_to sig ins m) (size ps) (size ps) ps
@@ -103,9 +103,9 @@ module _ (sig : Signature) (ins : List SortId) where
   unfolding mgu
   mgu-more p ps =
       let all : List (Term × Term) = p ∷ ps in
-      let n : ℕ = variables all in
+      let n : ℕ = count_of_numbers all in
       within-enough (mgu_to sig ins n) (mgu_to sig ins n) (size all) (suc (size all)) all (λ qs l. refl) (omega arith) (omega arith)
       ∙ step-same sig ins (mgu_to sig ins n) (mgu sig ins) (mgu_within sig ins (mgu_to sig ins n) (size all)) (mgu sig ins) p.0 p.1 ps
-      (λ qs d. let l = d.fewer in to-enough n (suc (variables qs)) qs (omega arith) (omega arith))
-      (λ qs d. let l = variables-le qs all d.inside in let z = d.size in
-      within-enough (mgu_to sig ins n) (mgu_to sig ins (variables qs)) (size all) (size qs) qs (λ rs e. to-enough n (variables qs) rs (omega arith) (omega arith)) (omega arith) (omega arith))
+      (λ qs d. let l = d.fewer in to-enough n (suc (count_of_numbers qs)) qs (omega arith) (omega arith))
+      (λ qs d. let l = count_of_numbers-le qs all d.inside in let z = d.size in
+      within-enough (mgu_to sig ins n) (mgu_to sig ins (count_of_numbers qs)) (size all) (size qs) qs (λ rs e. to-enough n (count_of_numbers qs) rs (omega arith) (omega arith)) (omega arith) (omega arith))

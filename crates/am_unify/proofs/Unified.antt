@@ -15,11 +15,11 @@ use Rattle.am_term.specs.Sorting.{sort_of, fits_place}
 use Rattle.am_unify.specs.declared.opening.Opened.{Opened}
 use Rattle.am_unify.specs.declared.opening.Opened.TheVariants.{More, Bind, Clash}
 use Rattle.am_unify.specs.Mgu.{bind, bind_term, bind_variable, decompose, open_pair, mgu}
-use Rattle.am_unify.specs.Occurrence.{occurs, occurs_in, variables}
+use Rattle.am_unify.specs.Occurrence.{number_occurs, number_occurs_in, count_of_numbers}
 use Rattle.am_unify.specs.Opening.{open_bind, open_term, open_variables, open_heads, opened, IsNext}
 use Rattle.am_unify.specs.Size.{size}
 use Rattle.am_unify.specs.Substitution.{after_binding, replace_in}
-use Rattle.am_unify.proofs.Standing.{stands_left, stands_right, variables-le}
+use Rattle.am_unify.proofs.Standing.{stands_left, stands_right, count_of_numbers-le}
 use Rattle.am_unify.proofs.Smaller.{IsShorter, HasFewer, rest-shorter, arguments-shorter, bound-fewer}
 use Rattle.am_unify.proofs.Steps.{is_var, is_app, var_stands, mgu-none, mgu-more}
 use Rattle.am_unify.proofs.Solved.{mgu-solved}
@@ -33,10 +33,10 @@ module _ (sig : Signature) (ins : List SortId) where
   Agrees all ps answer Clash = answer ≡ None
 
   module _ (t u : Term) (ps : List (Term × Term)) where
-    bind-agrees : (n : ℕ) (v : Term) → occurs_in n ((t, u) ∷ ps) ≡ true → ((m : ℕ) → occurs m v ≡ true → occurs_in m ((t, u) ∷ ps) ≡ true) → Agrees ((t, u) ∷ ps) ps (bind sig ins (mgu sig ins) (mgu sig ins) n v ps) (open_bind n v)
-    bind-agrees n v stands inner = by_test (occurs n v) refl
+    bind-agrees : (n : ℕ) (v : Term) → number_occurs_in n ((t, u) ∷ ps) ≡ true → ((m : ℕ) → number_occurs m v ≡ true → number_occurs_in m ((t, u) ∷ ps) ≡ true) → Agrees ((t, u) ∷ ps) ps (bind sig ins (mgu sig ins) (mgu sig ins) n v ps) (open_bind n v)
+    bind-agrees n v stands inner = by_test (number_occurs n v) refl
       where
-        by_test : (b : Bool) → occurs n v ≡ b → Agrees ((t, u) ∷ ps) ps (if b then None else after_binding n v (mgu sig ins (replace_in n v ps))) (if b then Clash else Bind n v)
+        by_test : (b : Bool) → number_occurs n v ≡ b → Agrees ((t, u) ∷ ps) ps (if b then None else after_binding n v (mgu sig ins (replace_in n v ps))) (if b then Clash else Bind n v)
         by_test true e = refl
         by_test false e = (refl, bound-fewer t u ps n v stands inner e)
 
@@ -96,7 +96,7 @@ module _ (sig : Signature) (ins : List SortId) where
 -- what is left has the same answer, and no more variables
 pub record IsLeft (sig : Signature) (ins : List SortId) (first todo : List (Term × Term)) : Type 0 where
   pub same : mgu sig ins first ≡ mgu sig ins todo
-  pub variables : variables todo ≤ variables first
+  pub variables : count_of_numbers todo ≤ count_of_numbers first
 
 module _ (sig : Signature) (ins : List SortId) (first old ps : List (Term × Term)) (p : Term × Term) (left : IsLeft sig ins first old) (item : slice_get old 0 ≡ Some p) (rest : ps ≡ remove old 0) where
   agrees_at : (o : Opened) → opened sig ins p.0 p.1 ≡ o → Agrees sig ins (p ∷ ps) ps (mgu sig ins (p ∷ ps)) o
@@ -111,8 +111,8 @@ module _ (sig : Signature) (ins : List SortId) (first old ps : List (Term × Ter
   pub left-more : (qs new : List (Term × Term)) → opened sig ins p.0 p.1 ≡ More qs → new ≡ qs ++ ps → IsLeft sig ins first new
   left-more qs new e is =
       let h = agrees_at (More qs) e in
-      let few : variables (qs ++ ps) ≤ variables (p ∷ ps) = variables-le (qs ++ ps) (p ∷ ps) h.1.inside in
-      let was : variables (p ∷ ps) ≡ variables old = ap variables (sym begins) in
+      let few : count_of_numbers (qs ++ ps) ≤ count_of_numbers (p ∷ ps) = count_of_numbers-le (qs ++ ps) (p ∷ ps) h.1.inside in
+      let was : count_of_numbers (p ∷ ps) ≡ count_of_numbers old = ap count_of_numbers (sym begins) in
       let before = left.variables in
       let l : IsLeft sig ins first (qs ++ ps) = record { same = answer ∙ h.0; variables = omega arith } in
       subst (IsLeft sig ins first) (sym is) l
@@ -126,8 +126,8 @@ module _ (sig : Signature) (ins : List SortId) (first old ps : List (Term × Ter
   pub next-bind : (n : ℕ) (v : Term) → opened sig ins p.0 p.1 ≡ Bind n v → IsNext sig ins first n v ps
   next-bind n v e =
       let h = agrees_at (Bind n v) e in
-      let few : variables (replace_in n v ps) < variables (p ∷ ps) = h.1.fewer in
-      let was : variables (p ∷ ps) ≡ variables old = ap variables (sym begins) in
+      let few : count_of_numbers (replace_in n v ps) < count_of_numbers (p ∷ ps) = h.1.fewer in
+      let was : count_of_numbers (p ∷ ps) ≡ count_of_numbers old = ap count_of_numbers (sym begins) in
       let before = left.variables in
       record { same = answer ∙ h.0; fewer = omega arith }
 

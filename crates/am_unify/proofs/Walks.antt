@@ -6,12 +6,12 @@ use Rattle.std.proofs.lemmas.Bool.Decides.{nat_tests}
 use Rattle.std.proofs.lemmas.List.Folds.{list_any_more, list_any_at}
 use Rattle.am_term.specs.declared.term.Term.{Term}
 use Rattle.am_term.specs.declared.term.Term.TheViews.{the_lemmas}
-use Rattle.am_unify.specs.Occurrence.{occurs_laws}
+use Rattle.am_unify.specs.Occurrence.{number_occurs_laws}
 use Rattle.am_unify.specs.Opening.{starts_below}
 use Rattle.am_unify.specs.Substitution.{apply_laws, bound_to, insert_binding}
 use Rattle.am_unify.proofs.Standing.{replace-Var, replace-In, replace-App}
 
-pub ruleset occurring = (common_steps, nat_tests, the_lemmas, occurs_laws, list_any_more, list_any_at)
+pub ruleset occurring = (common_steps, nat_tests, the_lemmas, number_occurs_laws, list_any_more, list_any_at)
 
 pub ruleset replacing = (common_steps, nat_tests, the_lemmas, replace-Var, replace-In, replace-App)
 

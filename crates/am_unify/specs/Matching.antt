@@ -13,7 +13,7 @@ use Rattle.am_term.specs.declared.term.Term.TheFolds.{fold-Term}
 use Rattle.am_term.specs.Fold.{fold-Var, fold-In, fold-App}
 use Rattle.am_term.specs.Same.{is_in, same_term}
 use Rattle.am_term.specs.Sorting.{sort_of, fits_place}
-use Rattle.am_unify.specs.Occurrence.{occurs}
+use Rattle.am_unify.specs.Occurrence.{number_occurs}
 use Rattle.am_unify.specs.Substitution.{Substitution, apply, listed, IsRising, insert_binding}
 use Rattle.am_unify.specs.Unifier.{IsFitting}
 
@@ -30,8 +30,8 @@ is_bound n bs = list_any (λ b. n == b.0) bs
 pub record IsMatch (sig : Signature) (ins : List SortId) (sorts : ℕ → SortId) (bs : List (ℕ × Term)) (pattern term : Term) : Type 0 where
   pub matches : IsInstance sig ins sorts (listed bs) pattern term
   pub rising : IsRising bs
-  pub exact : (n : ℕ) → is_bound n bs ≡ occurs n pattern
-  pub only : (θ : Substitution) → apply θ pattern ≡ term → (n : ℕ) → IsTrue (occurs n pattern) → θ n (sorts n) ≡ listed bs n (sorts n)
+  pub exact : (n : ℕ) → is_bound n bs ≡ number_occurs n pattern
+  pub only : (θ : Substitution) → apply θ pattern ≡ term → (n : ℕ) → IsTrue (number_occurs n pattern) → θ n (sorts n) ≡ listed bs n (sorts n)
 
 -- an answer: no instance is the term, or the one
 abbrev pub IsMatched : Signature → List SortId → (ℕ → SortId) → Term → Term → Option (List (ℕ × Term)) → Type 0

@@ -11,7 +11,7 @@ use Rattle.am_term.specs.declared.term.Term.TheVariants.{Var}
 use Rattle.am_term.specs.Same.{same_term}
 use Rattle.am_term.specs.Sorts.{fits}
 use Rattle.am_term.specs.Sorting.{sort_of, fits_place}
-use Rattle.am_unify.specs.Occurrence.{occurs, variables}
+use Rattle.am_unify.specs.Occurrence.{number_occurs, count_of_numbers}
 use Rattle.am_unify.specs.Size.{size}
 use Rattle.am_unify.specs.Substitution.{after_binding, replace_in}
 
@@ -24,7 +24,7 @@ Solver = List (Term × Term) → Option (List (ℕ × Term))
 module _ (sig : Signature) (ins : List SortId) (bound rest : Solver) where
   -- n becomes t everywhere, if it doesn't stand in t
   abbrev pub bind : ℕ → Term → Solver
-  bind n t ps = if occurs n t then None else after_binding n t (bound (replace_in n t ps))
+  bind n t ps = if number_occurs n t then None else after_binding n t (bound (replace_in n t ps))
 
   -- a variable and another term: the variable becomes the term, if the term's sort fits
   abbrev pub bind_term : ℕ → SortId → Term → Solver
@@ -68,4 +68,4 @@ mgu_to sig ins (suc n) ps = mgu_within sig ins (mgu_to sig ins n) (size ps) ps
 -- No pairs have the empty unifier, `mgu sig ins [] ≡ Some []`, and
 -- `mgu sig ins (p ∷ ps) ≡ mgu_step sig ins (mgu sig ins) (mgu sig ins) p ps`.
 unfoldable pub mgu : Signature → List SortId → Solver
-mgu sig ins ps = mgu_to sig ins (suc (variables ps)) ps
+mgu sig ins ps = mgu_to sig ins (suc (count_of_numbers ps)) ps

@@ -15,11 +15,11 @@ use Rattle.am_unify.specs.declared.opening.Opened.TheVariants.{More, Bind, Clash
 use Rattle.am_unify.specs.declared.solving.Step.{Step}
 use Rattle.am_unify.specs.declared.solving.Step.TheVariants.{Done, Stuck, Next}
 use Rattle.am_unify.specs.Mgu.{mgu}
-use Rattle.am_unify.specs.Occurrence.{occurs, variables}
+use Rattle.am_unify.specs.Occurrence.{number_occurs, count_of_numbers}
 use Rattle.am_unify.specs.Substitution.{after_binding, replace_in}
 
 abbrev pub open_bind : ℕ → Term → Opened
-open_bind n t = if occurs n t then Clash else Bind n t
+open_bind n t = if number_occurs n t then Clash else Bind n t
 
 module _ (sig : Signature) (ins : List SortId) where
   abbrev pub open_term : ℕ → SortId → Term → Opened
@@ -46,7 +46,7 @@ module _ (sig : Signature) (ins : List SortId) where
   -- the binding asked for next is the first one of the recursion, and fewer variables are left after it
   pub record IsNext (ps : List (Term × Term)) (n : ℕ) (t : Term) (rest : List (Term × Term)) : Type 0 where
     pub same : mgu sig ins ps ≡ after_binding n t (mgu sig ins (replace_in n t rest))
-    pub fewer : variables (replace_in n t rest) < variables ps
+    pub fewer : count_of_numbers (replace_in n t rest) < count_of_numbers ps
 
   -- no pairs are left, or there is no unifier, or a binding is asked for
   abbrev pub Reaches : List (Term × Term) → Step → Type 0

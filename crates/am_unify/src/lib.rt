@@ -13,7 +13,7 @@ mod opening;
 mod solving;
 mod substitution;
 
-pub use laws::{law_of_mgu, law_of_most_general, law_of_renaming};
+pub use laws::{law_of_mgu, law_of_most_general, law_of_occurrence, law_of_renaming};
 pub use matching::matches;
 pub use solving::unify;
 pub use substitution::Subst;

@@ -3,7 +3,7 @@ ghost use Rattle.am_term.specs.declared.id.SortId.{SortId};
 ghost use Rattle.am_term.specs.Same.{is_in};
 ghost use Rattle.am_term.specs.declared.term.Term.TheViews.{out-Term};
 ghost use Rattle.am_unify.specs.Matching.{IsMatched, bind_held, held as is_held, match_all, matched};
-ghost use Rattle.am_unify.specs.Unifier.{IsPosed, bindings_of};
+ghost use Rattle.am_unify.specs.Unifier.{IsSortedUnder, bindings_of};
 
 use crate::applying::inserted;
 use crate::substitution::Subst;
@@ -21,7 +21,7 @@ pub fn matches(
     pattern: &Term,
     term: &Term,
 ) -> Result<Option<Subst>, NoMemory>
-    ensures { (sorts : ℕ → SortId) → IsPosed ctx.now.sig.now ctx.now.ins.now sorts pattern.now → IfOk result (λ o. IsMatched ctx.now.sig.now ctx.now.ins.now sorts pattern.now term.now (bindings_of o)) }
+    ensures { (sorts : ℕ → SortId) → IsSortedUnder ctx.now.sig.now ctx.now.ins.now sorts pattern.now → IfOk result (λ o. IsMatched ctx.now.sig.now ctx.now.ins.now sorts pattern.now term.now (bindings_of o)) }
 {
     match extended(alloc, ctx, pattern, term, Items::new(alloc))? {
         Some(found) => Ok(Some(Subst(found))),

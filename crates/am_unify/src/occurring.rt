@@ -1,11 +1,11 @@
 ghost use Rattle.std.specs.Prelude.{◌≡◌};
-ghost use Rattle.am_unify.specs.Occurrence.{occurs as is_standing};
+ghost use Rattle.am_unify.specs.Occurrence.{number_occurs as is_standing};
 
 use am_term::Term;
 
-// Whether a variable of this number stands in the term.
+// Whether a variable of this number occurs in the term.
 #[tactic(auto, using(crate::proofs::Walks::occurring))]
-pub fn occurs(n: u32, term: &Term) -> bool
+pub fn number_occurs(n: u32, term: &Term) -> bool
     ensures { result ≡ is_standing n term.now }
 {
     match term {
@@ -13,7 +13,7 @@ pub fn occurs(n: u32, term: &Term) -> bool
         Term::In { .. } => false,
         Term::App { args, .. } => {
             for arg in args.as_slice() {
-                if occurs(n, arg) {
+                if number_occurs(n, arg) {
                     return true;
                 }
             }

@@ -2,7 +2,7 @@ ghost use Rattle.std.specs.Prelude.{◌≡◌, IfOk};
 ghost use Rattle.std.specs.List.{zip};
 ghost use Rattle.am_unify.specs.Opening.{open_bind as is_open_bind, open_term as is_open_term, open_variables as is_open_variables, opened as is_opened};
 
-use crate::occurring::occurs;
+use crate::occurring::number_occurs;
 use am_term::{Ctx, NoMemory, SortId, SymId, Term, fits, same, well_sorted};
 use sqlite_items::Items;
 use std::alloc::Global;
@@ -86,7 +86,7 @@ fn open_term(ctx: &Ctx, n: u32, sort: SortId, term: Term) -> Opened
 fn open_bind(n: u32, term: Term) -> Opened
     ensures { result ≡ is_open_bind n term }
 {
-    if occurs(n, &term) {
+    if number_occurs(n, &term) {
         return Opened::Clash;
     }
     Opened::Bind { n, term }

@@ -2,7 +2,7 @@ ghost use Rattle.std.specs.Prelude.{◌≡◌, ℕ, IfOk};
 ghost use Rattle.am_term.specs.declared.id.SortId.{SortId};
 ghost use Rattle.am_unify.specs.Mgu.{mgu};
 ghost use Rattle.am_unify.specs.Opening.{Reaches};
-ghost use Rattle.am_unify.specs.Unifier.{ArePosed, IsSolved, bindings_of};
+ghost use Rattle.am_unify.specs.Unifier.{AreSortedUnder, IsSolved, bindings_of};
 
 use crate::applying::{applied, inserted, replaced_in};
 use crate::opening::{Opened, open};
@@ -30,7 +30,7 @@ pub enum Step {
 #[tactic(auto, using(crate::proofs::Unified::unified))]
 pub fn unify(alloc: Global, ctx: &Ctx, pairs: &[(Term, Term)]) -> Result<Option<Subst>, NoMemory>
     ensures textbook { IfOk result (λ o. bindings_of o ≡ mgu ctx.now.sig.now ctx.now.ins.now pairs.now) }
-    ensures most_general { (sorts : ℕ → SortId) → ArePosed ctx.now.sig.now ctx.now.ins.now sorts pairs.now → IfOk result (λ o. IsSolved ctx.now.sig.now ctx.now.ins.now sorts pairs.now (bindings_of o)) }
+    ensures most_general { (sorts : ℕ → SortId) → AreSortedUnder ctx.now.sig.now ctx.now.ins.now sorts pairs.now → IfOk result (λ o. IsSolved ctx.now.sig.now ctx.now.ins.now sorts pairs.now (bindings_of o)) }
 {
     let mut todo = Items::new(alloc);
     for pair in pairs {

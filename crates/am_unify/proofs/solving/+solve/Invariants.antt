@@ -1,5 +1,5 @@
-use Rattle.am_unify.specs.Occurrence.{variables}
+use Rattle.am_unify.specs.Occurrence.{count_of_numbers}
 use Rattle.am_unify.proofs.solving.+solve.Given as goal
 
 abbrev pub decreases-solve : goal.decreases-solve
-decreases-solve l = variables l.pairs
+decreases-solve l = count_of_numbers l.pairs
