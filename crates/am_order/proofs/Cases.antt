@@ -4,12 +4,14 @@ use Rattle.std.proofs.Common.{◌≡◌, ◌&&◌, ◌||◌, ◌∙◌, Bool, tr
 use Rattle.am_term.specs.declared.signature.Signature.{Signature}
 use Rattle.am_term.specs.declared.term.Term.{Term}
 use Rattle.am_term.specs.declared.term.Term.TheViews.{out-Term}
+use Rattle.am_term.specs.Place.{args_of}
 use Rattle.am_term.specs.Same.{same_term}
+use Rattle.am_term.specs.Variables.{is_variable}
 use Rattle.am_term.proofs.Tests.{and_left, and_right, and_both, or_cases, or_left, or_right, bool_cases, never_both, true_not, not_false, fails}
 use Rattle.am_term.proofs.Alike.{same_term-refl, same_term-sound}
 use Rattle.am_order.specs.Precedence.{head_above, same_head}
 use Rattle.am_order.proofs.Nodes.{any_within}
-use Rattle.am_order.specs.Parts.{args_of, is_variable, is_part, inner_variable}
+use Rattle.am_order.specs.Parts.{is_part, inner_variable}
 use Rattle.am_order.specs.Order.{greater}
 use Rattle.am_order.specs.Cases.{reaches, some_reaches, exceeds_all, by_part, by_head}
 use Rattle.am_order.proofs.Unfold.{is_part-is, lex_greater, by_lex, greater-is}
@@ -32,24 +34,24 @@ module _ (sig : Signature) where
   inner-greater s t e = greater-is sig s t ∙ first_of_four (inner_variable t s) (some_reaches sig (args_of s) t) (by_head sig s t) (by_lex sig s t) e
 
   -- an argument in which a variable occurs reaches it
-  part-reached : (a t : Term) → is_variable (out-Term t) ≡ true → is_part t a ≡ true → reaches sig a t ≡ true
+  part-reached : (a t : Term) → is_variable t ≡ true → is_part t a ≡ true → reaches sig a t ≡ true
   part-reached a t v e = elim (bool_cases (same_term a t)) [
     | inl i ↦ or_left (same_term a t) (greater sig a t) i
     | inr i ↦ or_right (same_term a t) (greater sig a t) (inner-greater a t
-        (and_both (is_variable (out-Term t) && is_part t a) (not (same_term t a))
-        (and_both (is_variable (out-Term t)) (is_part t a) v e)
+        (and_both (is_variable t && is_part t a) (not (same_term t a))
+        (and_both (is_variable t) (is_part t a) v e)
         (not_false (same_term t a) (differ-sym a t i))))
   ]
 
   inner-parts : (s t : Term) → inner_variable t s ≡ true → list_any (is_part t) (args_of s) ≡ true
   inner-parts s t e =
-      let d : same_term t s ≡ false = true_not (same_term t s) (and_right (is_variable (out-Term t) && is_part t s) (not (same_term t s)) e) in
-      let p : is_part t s ≡ true = and_right (is_variable (out-Term t)) (is_part t s) (and_left (is_variable (out-Term t) && is_part t s) (not (same_term t s)) e) in
+      let d : same_term t s ≡ false = true_not (same_term t s) (and_right (is_variable t && is_part t s) (not (same_term t s)) e) in
+      let p : is_part t s ≡ true = and_right (is_variable t) (is_part t s) (and_left (is_variable t && is_part t s) (not (same_term t s)) e) in
       sym (ap (λ b. b || list_any (is_part t) (args_of s)) d) ∙ sym (is_part-is t s) ∙ p
 
   pub inner-reached : (s t : Term) → inner_variable t s ≡ true → some_reaches sig (args_of s) t ≡ true
   inner-reached s t e =
-      let v : is_variable (out-Term t) ≡ true = and_left (is_variable (out-Term t)) (is_part t s) (and_left (is_variable (out-Term t) && is_part t s) (not (same_term t s)) e) in
+      let v : is_variable t ≡ true = and_left (is_variable t) (is_part t s) (and_left (is_variable t && is_part t s) (not (same_term t s)) e) in
       any_within (is_part t) (λ a. reaches sig a t) (args_of s) (λ a l p. part-reached a t v p) (inner-parts s t e)
 
   pub greater-three : (s t : Term) → greater sig s t ≡ (by_part sig s t || by_head sig s t || by_lex sig s t)

@@ -10,28 +10,32 @@ use Rattle.am_term.specs.declared.term.Term.{Term}
 use Rattle.am_term.specs.declared.term.Term.TheOpen.{Term-F}
 use Rattle.am_term.specs.declared.term.Term.TheViews.{out-Term, roll-Term, roll-out-Term}
 use Rattle.am_term.specs.declared.term.Term.TheVariants.{App, outs-In, outs-App, rolls-In, rolls-App}
+use Rattle.am_term.specs.Place.{args_of, args_of-App}
 use Rattle.am_term.specs.Same.{same_term}
+use Rattle.am_term.specs.Variables.{is_variable_at}
 use Rattle.am_term.specs.Instance.{instance, instance-In, instance-App}
 use Rattle.am_term.proofs.Tests.{and_left, and_right, and_both, or_cases, or_left, or_right, bool_cases}
 use Rattle.am_term.proofs.Alike.{same_term-refl, same_term-sound}
 use Rattle.am_order.specs.Precedence.{head_above, same_head}
 use Rattle.am_order.specs.Closure.{IsSubstitution, Frame, placed}
-use Rattle.am_order.proofs.Nodes.{nodes, nodes-is, any_within, all_within}
+use Rattle.am_term.specs.Weight.{nodes}
+use Rattle.am_order.proofs.Nodes.{nodes-is, any_within, all_within}
 use Rattle.am_order.proofs.Cases.{greater_cases, greater-reached, greater-head, greater-arguments}
 use Rattle.am_order.proofs.Trans.{greater-trans, exceeds-args}
-use Rattle.am_order.specs.Parts.{arguments, args_of, is_variable}
+use Rattle.am_order.specs.Parts.{arguments_of_node}
+use Rattle.am_order.proofs.Ties.{args_of-node}
 use Rattle.am_order.specs.Order.{greater}
 use Rattle.am_order.specs.Cases.{reaches, some_reaches, exceeds_all}
 use Rattle.am_order.proofs.Unfold.{list_any-map, lex_greater}
 
 -- a variable has no arguments, and heads that compare are not those of variables
 
-variable-bare : (x : Term-F Term) → is_variable x ≡ true → arguments x ≡ []
+variable-bare : (x : Term-F Term) → is_variable_at x ≡ true → arguments_of_node x ≡ []
 variable-bare (Term-F.Var n s) e = refl
 variable-bare (Term-F.In k) e = refl
 variable-bare (Term-F.App f ts) e = absurd cc
 
-above-right : (sig : Signature) (x y : Term-F Term) → head_above sig x y ≡ true → is_variable y ≡ false
+above-right : (sig : Signature) (x y : Term-F Term) → head_above sig x y ≡ true → is_variable_at y ≡ false
 above-right sig (Term-F.Var n s) y e = absurd cc
 above-right sig (Term-F.In k) (Term-F.Var n s) e = absurd cc
 above-right sig (Term-F.In k) (Term-F.In j) e = refl
@@ -40,12 +44,12 @@ above-right sig (Term-F.App f ts) (Term-F.Var n s) e = absurd cc
 above-right sig (Term-F.App f ts) (Term-F.In j) e = refl
 above-right sig (Term-F.App f ts) (Term-F.App g us) e = refl
 
-same-left : (x y : Term-F Term) → same_head x y ≡ true → is_variable x ≡ false
+same-left : (x y : Term-F Term) → same_head x y ≡ true → is_variable_at x ≡ false
 same-left (Term-F.Var n s) y e = absurd cc
 same-left (Term-F.In k) y e = refl
 same-left (Term-F.App f ts) y e = refl
 
-same-right : (x y : Term-F Term) → same_head x y ≡ true → is_variable y ≡ false
+same-right : (x y : Term-F Term) → same_head x y ≡ true → is_variable_at y ≡ false
 same-right (Term-F.Var n s) y e = absurd cc
 same-right (Term-F.In k) (Term-F.Var n s) e = absurd cc
 same-right (Term-F.In k) (Term-F.In j) e = refl
@@ -61,13 +65,13 @@ module _ (sig : Signature) (θ : Term → Term) (is : IsSubstitution θ) where
   symbol-kept : (f : SymId) (ts : List Term) → out-Term (θ (roll-Term (Term-F.App f ts))) ≡ Term-F.App f (map θ ts)
   symbol-kept f ts = rw (rolls-App, is.symbols) (outs-App f (map θ ts))
 
-  rolled-args : (x : Term-F Term) → is_variable x ≡ false → args_of (θ (roll-Term x)) ≡ map θ (arguments x)
+  rolled-args : (x : Term-F Term) → is_variable_at x ≡ false → args_of (θ (roll-Term x)) ≡ map θ (arguments_of_node x)
   rolled-args (Term-F.Var n s) e = absurd cc
-  rolled-args (Term-F.In k) e = ap (λ (y : Term-F Term). arguments y) (input-kept k)
-  rolled-args (Term-F.App f ts) e = ap (λ (y : Term-F Term). arguments y) (symbol-kept f ts)
+  rolled-args (Term-F.In k) e = args_of-node (θ (roll-Term (Term-F.In k))) ∙ ap (λ (y : Term-F Term). arguments_of_node y) (input-kept k)
+  rolled-args (Term-F.App f ts) e = args_of-node (θ (roll-Term (Term-F.App f ts))) ∙ ap (λ (y : Term-F Term). arguments_of_node y) (symbol-kept f ts)
 
-  args-kept : (t : Term) → is_variable (out-Term t) ≡ false → args_of (θ t) ≡ map θ (args_of t)
-  args-kept t e = ap (λ u. args_of (θ u)) (sym (roll-out-Term t)) ∙ rolled-args (out-Term t) e
+  args-kept : (t : Term) → is_variable_at (out-Term t) ≡ false → args_of (θ t) ≡ map θ (args_of t)
+  args-kept t e = ap (λ u. args_of (θ u)) (sym (roll-out-Term t)) ∙ rolled-args (out-Term t) e ∙ ap (map θ) (sym (args_of-node t))
 
   rolled-above : (x y : Term-F Term) → head_above sig x y ≡ true → head_above sig (out-Term (θ (roll-Term x))) (out-Term (θ (roll-Term y))) ≡ true
   rolled-above (Term-F.Var n s) y e = absurd cc
@@ -131,8 +135,8 @@ module _ (sig : Signature) (θ : Term → Term) (is : IsSubstitution θ) where
 
     kept-step : (s t : Term) → nodes s + nodes t < suc n → Kept s t
     kept-step s t l g = greater_cases sig s t g
-        (λ r. elim (bool_cases (is_variable (out-Term s))) [
-          | inl v ↦ let bare : some_reaches sig [] t ≡ true = subst (λ as_. some_reaches sig as_ t ≡ true) (variable-bare (out-Term s) v) r in absurd cc
+        (λ r. elim (bool_cases (is_variable_at (out-Term s))) [
+          | inl v ↦ let bare : some_reaches sig [] t ≡ true = subst (λ as_. some_reaches sig as_ t ≡ true) (args_of-node s ∙ variable-bare (out-Term s) v) r in absurd cc
           | inr v ↦ greater-reached sig (θ s) (θ t)
               (subst (λ as_. some_reaches sig as_ (θ t) ≡ true) (sym (args-kept s v)) (some-kept (args_of s) t (omega (arith, nodes-is s)) r))
         ])
@@ -175,9 +179,6 @@ module _ (sig : Signature) (s t : Term) (g : greater sig s t ≡ true) where
       (and_left (greater sig w a) (exceeds_all sig w (before ++ s ∷ behind)) e)
       (exceeds-context w before behind (and_right (greater sig w a) (exceeds_all sig w (before ++ s ∷ behind)) e))
 
-  args-of-App : (f : SymId) (ts : List Term) → args_of (App f ts) ≡ ts
-  args-of-App f ts = ap (λ (y : Term-F Term). arguments y) (outs-App f ts)
-
   number-same : (n : ℕ) → (n == n) ≡ true
   number-same n = grind (arith, nat_tests)
 
@@ -185,8 +186,8 @@ module _ (sig : Signature) (s t : Term) (g : greater sig s t ≡ true) where
   greater-argument f before behind =
       let w : Term = App f (before ++ s ∷ behind) in
       let v : Term = App f (before ++ t ∷ behind) in
-      let i : args_of w ≡ before ++ s ∷ behind = args-of-App f (before ++ s ∷ behind) in
-      let j : args_of v ≡ before ++ t ∷ behind = args-of-App f (before ++ t ∷ behind) in
+      let i : args_of w ≡ before ++ s ∷ behind = args_of-App f (before ++ s ∷ behind) in
+      let j : args_of v ≡ before ++ t ∷ behind = args_of-App f (before ++ t ∷ behind) in
       greater-arguments sig w v
       (rw (outs-App f (before ++ s ∷ behind), outs-App f (before ++ t ∷ behind)) (number-same f.0))
       (subst (λ us. exceeds_all sig w us ≡ true) (sym j) (exceeds-context w before behind (subst (λ us. exceeds_all sig w us ≡ true) i (exceeds-args sig w))))

@@ -6,6 +6,7 @@ pub mod Lists
 pub mod Nodes
 pub mod Quick
 pub mod Shapes
+pub mod Ties
 pub mod Trans
 pub mod Walks
 pub mod Unfold

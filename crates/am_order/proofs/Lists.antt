@@ -7,7 +7,7 @@ use Rattle.std.proofs.lemmas.List.Sums.{sum_by-cons, sum_by-take-drop}
 use Rattle.am_term.specs.declared.signature.Signature.{Signature}
 use Rattle.am_term.specs.declared.term.Term.{Term}
 use Rattle.am_term.specs.Same.{same_term}
-use Rattle.am_order.proofs.Nodes.{nodes}
+use Rattle.am_term.specs.Weight.{nodes}
 use Rattle.am_order.specs.Order.{greater}
 use Rattle.am_order.specs.Cases.{first_greater}
 

@@ -9,11 +9,12 @@ use Rattle.am_term.specs.declared.signature.Signature.{Signature}
 use Rattle.am_term.specs.declared.term.Term.{Term}
 use Rattle.am_term.specs.declared.term.Term.TheOpen.{Term-F}
 use Rattle.am_term.specs.declared.term.Term.TheVariants.{App, outs-App}
+use Rattle.am_term.specs.Place.{args_of-App}
 use Rattle.am_term.specs.Same.{same_term}
 use Rattle.am_term.proofs.Tests.{and_left, and_right, and_false, or_false, or_cases, fails}
 use Rattle.am_term.proofs.Alike.{same_term-sound}
 use Rattle.am_order.specs.Precedence.{above}
-use Rattle.am_order.specs.Parts.{arguments, args_of, shared}
+use Rattle.am_order.specs.Parts.{common_front}
 use Rattle.am_order.specs.Order.{greater}
 use Rattle.am_order.specs.Cases.{reaches, some_reaches, exceeds_all, first_greater}
 use Rattle.am_order.proofs.Heads.{head_above-irreflexive}
@@ -66,14 +67,11 @@ module _ (sig : Signature) where
   exceeds-trans : (s t : Term) (us : List Term) → greater sig s t ≡ true → exceeds_all sig t us ≡ true → exceeds_all sig s us ≡ true
   exceeds-trans s t us g e = all_within (greater sig t) (greater sig s) us (λ u l h. greater-trans sig s t u g h) e
 
-  args-of-App : (f : SymId) (ts : List Term) → args_of (App f ts) ≡ ts
-  args-of-App f ts = ap (λ (y : Term-F Term). arguments y) (outs-App f ts)
-
   exceeds-own : (f : SymId) (ts : List Term) → exceeds_all sig (App f ts) ts ≡ true
-  exceeds-own f ts = subst (λ us. exceeds_all sig (App f ts) us ≡ true) (args-of-App f ts) (exceeds-args sig (App f ts))
+  exceeds-own f ts = subst (λ us. exceeds_all sig (App f ts) us ≡ true) (args_of-App f ts) (exceeds-args sig (App f ts))
 
   reached-own : (f : SymId) (ts : List Term) (t : Term) → some_reaches sig ts t ≡ true → greater sig (App f ts) t ≡ true
-  reached-own f ts t r = greater-reached sig (App f ts) t (subst (λ us. some_reaches sig us t ≡ true) (sym (args-of-App f ts)) r)
+  reached-own f ts t r = greater-reached sig (App f ts) t (subst (λ us. some_reaches sig us t ≡ true) (sym (args_of-App f ts)) r)
 
   -- a greater head: the arguments of the other term are all that is left to look at
 
@@ -93,14 +91,14 @@ module _ (sig : Signature) where
   -- the same heads: the arguments behind the first ones that differ are
 
   module _ (s t : Term) where
-    -- s is greater than t, which has the same head, as the arguments behind the shared ones decide
+    -- s is greater than t, which has the same head, as the arguments behind those in front that are the same decide
     abbrev ending : List Term → List Term → Bool
     ending [] us = false
     ending (a ∷ as_) [] = some_reaches sig (a ∷ as_) t
     ending (a ∷ as_) (u ∷ us) = if greater sig a u then exceeds_all sig s us else some_reaches sig as_ t
 
     abbrev decided : List Term → List Term → Bool
-    decided as_ us = ending (drop (shared as_ us) as_) (drop (shared as_ us) us)
+    decided as_ us = ending (drop (common_front as_ us) as_) (drop (common_front as_ us) us)
 
     abbrev left : List Term → List Term → Bool
     left as_ us = some_reaches sig as_ t || (exceeds_all sig s us && first_greater sig as_ us)
@@ -121,7 +119,7 @@ module _ (sig : Signature) where
     settled-more : (a u : Term) (as_ us : List Term) (b : Bool) → same_term a u ≡ b →
         exceeds_all sig s (a ∷ as_) ≡ true → exceeds_all sig t (u ∷ us) ≡ true → left as_ us ≡ decided as_ us →
         ((reaches sig a t || some_reaches sig as_ t) || ((greater sig s u && exceeds_all sig s us) && (if b then first_greater sig as_ us else greater sig a u)))
-        ≡ ending (drop (if b then suc (shared as_ us) else 0) (a ∷ as_)) (drop (if b then suc (shared as_ us) else 0) (u ∷ us))
+        ≡ ending (drop (if b then suc (common_front as_ us) else 0) (a ∷ as_)) (drop (if b then suc (common_front as_ us) else 0) (u ∷ us))
     settled-more a u as_ us true i e f h =
         let j : a ≡ u = same_term-sound a u i in
         same_case (reaches sig a t) (some_reaches sig as_ t) (greater sig s u) (exceeds_all sig s us) (first_greater sig as_ us) (decided as_ us)
@@ -166,34 +164,34 @@ module _ (sig : Signature) where
         ∙ settled (App f as_) (App g us) as_ us (exceeds-own f as_) (exceeds-own g us)
 
     -- one list of arguments begins with the other
-    pub ended-left : length as_ ≤ shared as_ us → greater sig (App f as_) (App g us) ≡ some_reaches sig (drop (shared as_ us) as_) (App g us)
+    pub ended-left : length as_ ≤ common_front as_ us → greater sig (App f as_) (App g us) ≡ some_reaches sig (drop (common_front as_ us) as_) (App g us)
     ended-left l = level ∙ rw (drop_of_length-le as_ l) refl
 
-    pub ended-right : length us ≤ shared as_ us → greater sig (App f as_) (App g us) ≡ some_reaches sig (drop (shared as_ us) as_) (App g us)
-    ended-right l = level ∙ rw (drop_of_length-le us l) (ending-none (App f as_) (App g us) (drop (shared as_ us) as_))
+    pub ended-right : length us ≤ common_front as_ us → greater sig (App f as_) (App g us) ≡ some_reaches sig (drop (common_front as_ us) as_) (App g us)
+    ended-right l = level ∙ rw (drop_of_length-le us l) (ending-none (App f as_) (App g us) (drop (common_front as_ us) as_))
 
     -- x and y are the first arguments that differ
-    module _ (m : ℕ) (x y : Term) (o : m ≡ shared as_ us) (k : m < length as_) (l : m < length us) (i : x ≡ get_or as_ m x) (j : y ≡ get_or us m y) where
+    module _ (m : ℕ) (x y : Term) (o : m ≡ common_front as_ us) (k : m < length as_) (l : m < length us) (i : x ≡ get_or as_ m x) (j : y ≡ get_or us m y) where
       pub differ-greater : greater sig x y ≡ true → greater sig (App f as_) (App g us) ≡ exceeds_all sig (App f as_) (drop (m + 1) us)
       differ-greater h = level ∙ rw (← o, drop_more as_ m x k, drop_more us m y l, ← i, ← j, h) refl
 
       pub differ-lesser : greater sig x y ≡ false → greater sig (App f as_) (App g us) ≡ some_reaches sig (drop (m + 1) as_) (App g us)
       differ-lesser h = level ∙ rw (← o, drop_more as_ m x k, drop_more us m y l, ← i, ← j, h) refl
 
--- how many are shared
+-- how many are in common
 
-pub shared-none : (as_ us : List Term) (i : ℕ) → length as_ ≤ i → shared (drop i as_) (drop i us) ≡ 0
-shared-none as_ us i l = rw (drop_of_length-le as_ l) refl
+pub front-none : (as_ us : List Term) (i : ℕ) → length as_ ≤ i → common_front (drop i as_) (drop i us) ≡ 0
+front-none as_ us i l = rw (drop_of_length-le as_ l) refl
 
-pub shared-ends : (as_ us : List Term) (i : ℕ) → length us ≤ i → shared (drop i as_) (drop i us) ≡ 0
-shared-ends as_ us i l = rw (drop_of_length-le us l) (nothing (drop i as_))
+pub front-ends : (as_ us : List Term) (i : ℕ) → length us ≤ i → common_front (drop i as_) (drop i us) ≡ 0
+front-ends as_ us i l = rw (drop_of_length-le us l) (nothing (drop i as_))
   where
-    nothing : (ts : List Term) → shared ts [] ≡ 0
+    nothing : (ts : List Term) → common_front ts [] ≡ 0
     nothing [] = refl
     nothing (t ∷ ts) = refl
 
-pub shared-same : (as_ us : List Term) (i : ℕ) (d : Term) → i < length as_ → i < length us → same_term (get_or as_ i d) (get_or us i d) ≡ true → shared (drop i as_) (drop i us) ≡ shared (drop (i + 1) as_) (drop (i + 1) us) + 1
-shared-same as_ us i d k l e = rw (drop_more as_ i d k, drop_more us i d l, e) (omega arith)
+pub front-same : (as_ us : List Term) (i : ℕ) (d : Term) → i < length as_ → i < length us → same_term (get_or as_ i d) (get_or us i d) ≡ true → common_front (drop i as_) (drop i us) ≡ common_front (drop (i + 1) as_) (drop (i + 1) us) + 1
+front-same as_ us i d k l e = rw (drop_more as_ i d k, drop_more us i d l, e) (omega arith)
 
-pub shared-differ : (as_ us : List Term) (i : ℕ) (d : Term) → i < length as_ → i < length us → same_term (get_or as_ i d) (get_or us i d) ≡ false → shared (drop i as_) (drop i us) ≡ 0
-shared-differ as_ us i d k l e = rw (drop_more as_ i d k, drop_more us i d l, e) refl
+pub front-differ : (as_ us : List Term) (i : ℕ) (d : Term) → i < length as_ → i < length us → same_term (get_or as_ i d) (get_or us i d) ≡ false → common_front (drop i as_) (drop i us) ≡ 0
+front-differ as_ us i d k l e = rw (drop_more as_ i d k, drop_more us i d l, e) refl

@@ -5,15 +5,17 @@ use Rattle.std.proofs.lemmas.List.Sums.{sum_by-cons}
 use Rattle.am_term.specs.declared.signature.Signature.{Signature}
 use Rattle.am_term.specs.declared.term.Term.{Term}
 use Rattle.am_term.specs.declared.term.Term.TheViews.{out-Term}
+use Rattle.am_term.specs.Place.{args_of}
 use Rattle.am_term.specs.Same.{same_term}
 use Rattle.am_term.proofs.Tests.{and_left, and_right, and_both, or_cases, or_left, or_right, or_false, never_both, fails}
 use Rattle.am_term.proofs.Alike.{same_term-sound}
 use Rattle.am_order.specs.Precedence.{head_above, same_head}
 use Rattle.am_order.proofs.Heads.{head_above-irreflexive, head_above-trans, same_head-above, same_head-below, same_head-trans}
-use Rattle.am_order.proofs.Nodes.{nodes, nodes-is, any_within, all_within}
+use Rattle.am_term.specs.Weight.{nodes}
+use Rattle.am_order.proofs.Nodes.{nodes-is, any_within, all_within}
 use Rattle.std.specs.Prelude.{if◌then◌else◌}
 use Rattle.am_order.proofs.Cases.{greater-three, greater_cases, greater-reached, greater-head, greater-arguments, reaches_cases, reaches-same, reaches-greater}
-use Rattle.am_order.specs.Parts.{args_of, is_part, inner_variable}
+use Rattle.am_order.specs.Parts.{is_part, inner_variable}
 use Rattle.am_order.specs.Order.{greater}
 use Rattle.am_order.specs.Cases.{reaches, some_reaches, exceeds_all, first_greater, by_part, by_head, by_arguments}
 use Rattle.am_order.proofs.Unfold.{is_part-is, lex_greater, greater-is}

@@ -8,9 +8,11 @@ use Rattle.am_term.specs.declared.term.Term.{Term}
 use Rattle.am_term.specs.declared.term.Term.TheOpen.{Term-F}
 use Rattle.am_term.specs.declared.term.Term.TheViews.{out-Term, roll-Term, roll-out-Term, out-roll-Term}
 use Rattle.am_term.specs.declared.term.Term.TheFolds.{map-Term, para-Term, para-roll-Term}
+use Rattle.am_term.specs.Place.{args_of}
 use Rattle.am_term.specs.Same.{same_term}
 use Rattle.am_order.specs.Precedence.{head_above, same_head}
-use Rattle.am_order.specs.Parts.{arguments, args_of, whole, part_step, is_part, inner_variable}
+use Rattle.am_order.specs.Parts.{arguments_of_node, whole, part_step, is_part, inner_variable}
+use Rattle.am_order.proofs.Ties.{args_of-node, args_of-roll}
 use Rattle.am_order.specs.Order.{LeftArgument, RightArgument, first_left, compared, greater_step, greater}
 use Rattle.am_order.specs.Cases.{exceeds_all, by_part, by_head}
 
@@ -24,7 +26,7 @@ module _ {A : Type 0} (h : Term → A) where
   whole-is (Term-F.In k) = refl
   whole-is (Term-F.App f ts) = ap (λ us. roll-Term (Term-F.App f us)) (firsts ts)
 
-arguments-map : {X Y : Type 0} (h : X → Y) (x : Term-F X) → arguments (map-Term X Y h x) ≡ map h (arguments x)
+arguments-map : {X Y : Type 0} (h : X → Y) (x : Term-F X) → arguments_of_node (map-Term X Y h x) ≡ map h (arguments_of_node x)
 arguments-map h (Term-F.Var n s) = refl
 arguments-map h (Term-F.In k) = refl
 arguments-map h (Term-F.App f ts) = refl
@@ -40,7 +42,7 @@ is_part-is t s =
     let h : Term → Term × Bool = λ u. (u, is_part t u) in
     sym (ap (is_part t) (roll-out-Term s))
     ∙ para-roll-Term Bool (part_step t) x
-    ∙ rw (whole-is (is_part t) x, arguments-map h x, list_any-map (λ (y : Term × Bool). y.1) h (arguments x), roll-out-Term s) refl
+    ∙ rw (whole-is (is_part t) x, arguments-map h x, list_any-map (λ (y : Term × Bool). y.1) h (arguments_of_node x), roll-out-Term s, args_of-node s) refl
 
 -- the first argument is greater, or it is the same and so on with the rest
 abbrev pub lex_greater : Signature → List Term → List Term → Bool
@@ -93,7 +95,7 @@ module _ (sig : Signature) where
       ∙ para-roll-Term Bool c y
       ∙ ap (λ (g : Term → Bool). c (map-Term Term RightArgument (λ u. (u, g u)) y)) (sym (opened x))
       ∙ rw (whole-is (greater sig) x, whole-is (greater sig s) y, above-is (greater sig s) x y, same-is (greater sig s) x y, arguments-map j x, arguments-map k y)
-      (rw (list_any-map (λ (a : LeftArgument). same_term a.0 (roll-Term y) || a.1 (roll-Term y)) j (arguments x), list_all-map (λ (u : RightArgument). u.1) k (arguments y), first-is (greater sig s) (arguments x) (arguments y), out-roll-Term x, out-roll-Term y) refl)
+      (rw (list_any-map (λ (a : LeftArgument). same_term a.0 (roll-Term y) || a.1 (roll-Term y)) j (arguments_of_node x), list_all-map (λ (u : RightArgument). u.1) k (arguments_of_node y), first-is (greater sig s) (arguments_of_node x) (arguments_of_node y), out-roll-Term x, out-roll-Term y, args_of-roll x, args_of-roll y) refl)
 
 pub greater-is : (sig : Signature) (s t : Term) → greater sig s t ≡ four_cases sig s t
 greater-is sig s t = rw (← roll-out-Term s) (rw (← roll-out-Term t) (rolled sig (out-Term s) (out-Term t)))

@@ -4,9 +4,9 @@ use Rattle.std.specs.List.{list_any, list_all}
 use Rattle.am_term.specs.declared.signature.Signature.{Signature}
 use Rattle.am_term.specs.declared.term.Term.{Term}
 use Rattle.am_term.specs.declared.term.Term.TheViews.{out-Term}
+use Rattle.am_term.specs.Place.{args_of}
 use Rattle.am_term.specs.Same.{same_term}
 use Rattle.am_order.specs.Precedence.{head_above, same_head}
-use Rattle.am_order.specs.Parts.{args_of}
 use Rattle.am_order.specs.Order.{greater}
 
 -- a is t or greater than it

@@ -7,7 +7,7 @@ use Rattle.am_term.specs.declared.term.Term.TheOpen.{Term-F}
 use Rattle.am_term.specs.declared.term.Term.TheFolds.{para-Term}
 use Rattle.am_term.specs.Same.{same_term}
 use Rattle.am_order.specs.Precedence.{head_above, same_head}
-use Rattle.am_order.specs.Parts.{arguments, inner_variable, whole}
+use Rattle.am_order.specs.Parts.{arguments_of_node, inner_variable, whole}
 
 -- an argument of the left term, and what it is greater than
 abbrev pub LeftArgument : Type 0
@@ -31,9 +31,9 @@ first_left (a ∷ as_) (u ∷ us) = a.1 u.0 || (same_term a.0 u.0 && first_left 
 abbrev pub compared : Signature → Term-F LeftArgument → Term-F RightArgument → Bool
 compared sig x y =
     inner_variable (whole y) (whole x)
-    || list_any (λ a. same_term a.0 (whole y) || a.1 (whole y)) (arguments x)
-    || (head_above sig x y && list_all (λ u. u.1) (arguments y))
-    || (same_head x y && list_all (λ u. u.1) (arguments y) && first_left (arguments x) (arguments y))
+    || list_any (λ a. same_term a.0 (whole y) || a.1 (whole y)) (arguments_of_node x)
+    || (head_above sig x y && list_all (λ u. u.1) (arguments_of_node y))
+    || (same_head x y && list_all (λ u. u.1) (arguments_of_node y) && first_left (arguments_of_node x) (arguments_of_node y))
 
 abbrev pub greater_step : Signature → Term-F LeftArgument → Term → Bool
 greater_step sig x = para-Term Bool (compared sig x)

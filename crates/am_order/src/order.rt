@@ -1,7 +1,7 @@
 ghost use Rattle.std.specs.Prelude.{◌≡◌, ◌≤◌, length};
 ghost use Rattle.am_order.specs.Order.{greater as is_greater};
 ghost use Rattle.am_order.specs.Cases.{some_reaches, exceeds_all};
-ghost use Rattle.am_order.specs.Parts.{shared as count_shared};
+ghost use Rattle.am_order.specs.Parts.{common_front as is_common_front};
 
 use crate::precedence::above;
 use am_term::{Signature, Term, same};
@@ -29,7 +29,7 @@ pub fn greater(sig: &Signature, s: &Term, t: &Term) -> bool
             if f.0 != g.0 {
                 return reaches(sig, args, t);
             }
-            let i = shared(args, others);
+            let i = common_front(args, others);
             if i == args.len() || i == others.len() {
                 return reaches(sig, &args[i..], t);
             }
@@ -77,10 +77,10 @@ fn exceeds(sig: &Signature, s: &Term, terms: &[Term]) -> bool
     true
 }
 
-// How many terms the lists share from the front.
-#[tactic(auto, using(crate::proofs::Walks::shared_walks))]
-fn shared(terms: &[Term], others: &[Term]) -> usize
-    ensures count { result ≡ count_shared terms.now others.now }
+// How many terms the lists have in common from the front.
+#[tactic(auto, using(crate::proofs::Walks::front_walks))]
+fn common_front(terms: &[Term], others: &[Term]) -> usize
+    ensures count { result ≡ is_common_front terms.now others.now }
     ensures left { result ≤ length terms.now }
     ensures right { result ≤ length others.now }
 {

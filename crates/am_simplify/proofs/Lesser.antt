@@ -2,19 +2,19 @@
 use Rattle.std.proofs.Common.{◌≡◌, ◌∙◌, ◌==◌, ◌&&◌, ◌||◌, inl, inr, ℕ, true, refl, sym, ap, subst, List, [], ◌∷◌}
 use Rattle.std.specs.List.{list_any}
 use Rattle.am_term.specs.Induct.{term_induct}
+use Rattle.am_term.specs.Place.{args_of-App}
 use Rattle.am_term.specs.Same.{same_term}
 use Rattle.am_term.specs.Variables.{occurs, occurs-Var, occurs-In, occurs-App}
 use Rattle.am_term.specs.declared.id.SortId.{SortId}
 use Rattle.am_term.specs.declared.id.SymId.{SymId}
 use Rattle.am_term.specs.declared.signature.Signature.{Signature}
 use Rattle.am_term.specs.declared.term.Term.{Term}
-use Rattle.am_term.specs.declared.term.Term.TheVariants.{Var, App, outs-App}
+use Rattle.am_term.specs.declared.term.Term.TheVariants.{Var, App}
 use Rattle.am_term.proofs.Alike.{same_term-sound}
 use Rattle.am_term.proofs.Tests.{and_left, and_right, and_both, or_cases, or_left, or_right}
 use Rattle.am_order.specs.Cases.{exceeds_all, some_reaches}
 use Rattle.am_order.specs.Order.{greater}
 use Rattle.am_order.proofs.Shapes.{greater-Var, greater-In-Var, greater-App-Var}
-use Rattle.am_order.specs.Parts.{arguments}
 use Rattle.am_order.proofs.Trans.{exceeds-args, greater-trans}
 use Rattle.am_rules.proofs.Standing.{never}
 use Rattle.am_unify.proofs.Standing.{number_is, number_same}
@@ -59,7 +59,7 @@ module _ (sig : Signature) (n : ℕ) (r : SortId) where
       ])
     where
       all-args : (f : SymId) (ts : List Term) (s : Term) → greater sig s (App f ts) ≡ true → exceeds_all sig s ts ≡ true
-      all-args f ts s g = carried ts (subst (λ us. exceeds_all sig (App f ts) us ≡ true) (ap arguments (outs-App f ts)) (exceeds-args sig (App f ts)))
+      all-args f ts s g = carried ts (subst (λ us. exceeds_all sig (App f ts) us ≡ true) (args_of-App f ts) (exceeds-args sig (App f ts)))
         where
           carried : (us : List Term) → exceeds_all sig (App f ts) us ≡ true → exceeds_all sig s us ≡ true
           carried [] e = refl

@@ -1,7 +1,7 @@
 use Rattle.std.specs.List.{sum_by}
 use Rattle.std.proofs.Common.{◌≡◌, ◌+◌, ◌*◌, true, false, take, drop}
 use Rattle.am_order.specs.Cases.{some_reaches, exceeds_all, first_greater}
-use Rattle.am_order.proofs.Nodes.{nodes}
+use Rattle.am_term.specs.Weight.{nodes}
 use Rattle.am_order.proofs.plain.+plain.Given as goal
 
 abbrev pub decreases-greater_plain : goal.decreases-greater_plain
