@@ -1,6 +1,6 @@
 -- How many nodes the arguments of a term have, and tests of lists whose members are bounded by it.
 use Rattle.std.specs.List.{sum_by, list_any, list_all}
-use Rattle.std.proofs.Common.{◌≡◌, ◌+◌, ◌≤◌, ◌∙◌, ℕ, Bool, true, List, [], ◌∷◌, sym, ap, arith, inl, inr}
+use Rattle.std.proofs.Common.{◌≡◌, ◌+◌, ◌≤◌, ◌∙◌, Bool, true, List, [], ◌∷◌, sym, ap, arith, inl, inr}
 use Rattle.std.proofs.lemmas.List.Sums.{sum_by-cons}
 use Rattle.am_term.specs.declared.term.Term.{Term}
 use Rattle.am_term.specs.declared.term.Term.TheOpen.{Term-F}

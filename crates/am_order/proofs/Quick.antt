@@ -8,7 +8,7 @@ use Rattle.am_term.specs.declared.id.SymId.{SymId}
 use Rattle.am_term.specs.declared.signature.Signature.{Signature}
 use Rattle.am_term.specs.declared.term.Term.{Term}
 use Rattle.am_term.specs.declared.term.Term.TheOpen.{Term-F}
-use Rattle.am_term.specs.declared.term.Term.TheVariants.{App, outs-App}
+use Rattle.am_term.specs.declared.term.Term.TheVariants.{App}
 use Rattle.am_term.specs.Place.{args_of-App}
 use Rattle.am_term.specs.Same.{same_term}
 use Rattle.am_term.proofs.Tests.{and_left, and_right, and_false, or_false, or_cases, fails}

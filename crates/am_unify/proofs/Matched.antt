@@ -17,7 +17,7 @@ use Rattle.am_term.specs.Sorting.{fits_place, sort_of}
 use Rattle.am_term.proofs.Alike.{same_term-refl, same_term-sound}
 use Rattle.am_term.proofs.Forest.{fits-same}
 use Rattle.am_term.proofs.Tests.{and_left, and_right, and_both, or_assoc, or_comm, or_true, or_false}
-use Rattle.am_unify.specs.Matching.{IsInstance, is_bound, IsMatch, IsMatched, held, Matcher, and_then, match_all, bind_held, match_app, matched, matched-Var, matched-In, matched-App, matched_laws}
+use Rattle.am_unify.specs.Matching.{IsInstance, is_bound, IsMatch, IsMatched, held, PatternMatch, and_then, match_all, bind_held, match_app, matched, matched-Var, matched-In, matched-App, matched_laws}
 use Rattle.am_unify.specs.Occurrence.{number_occurs, number_occurs-Var, number_occurs-In, number_occurs-App}
 use Rattle.am_unify.specs.Substitution.{Substitution, apply, applies, apply-Var, apply-In, apply-App, bound_to, listed, insert_binding, IsRising}
 use Rattle.am_unify.specs.Unifier.{IsSortedUnder, IsFitting}
@@ -295,7 +295,7 @@ module _ (sig : Signature) (ins : List SortId) (sorts : ℕ → SortId) where
 pub held_at : (bs : List (ℕ × Term)) (i n : ℕ) (t : Term) (x : ℕ × Term) → i < length bs → held (drop i bs) n t ≡ (let b = get_or bs i x in if b.0 == n then Some (same_term b.1 t) else held (drop (i + 1) bs) n t)
 held_at bs i n t x h = rw (add-one, drop-cons bs i x) refl
 
-match_all-count : (ms : List Matcher) (ts : List Term) (bs : List (ℕ × Term)) → length ms ≢ length ts → match_all ms ts bs ≡ None
+match_all-count : (ms : List PatternMatch) (ts : List Term) (bs : List (ℕ × Term)) → length ms ≢ length ts → match_all ms ts bs ≡ None
 match_all-count [] [] bs h = absurd (h refl)
 match_all-count [] (t ∷ ts) bs h = refl
 match_all-count (m ∷ ms) [] bs h = refl

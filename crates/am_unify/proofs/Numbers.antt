@@ -1,5 +1,5 @@
 -- A number occurs where a variable of that number does.
-use Rattle.std.proofs.Common.{◌≡◌, ◌∙◌, ◌==◌, inl, inr, ℕ, true, false, true≢false, sym, List}
+use Rattle.std.proofs.Common.{◌≡◌, ◌∙◌, ◌==◌, inl, inr, ℕ, true, false, true≢false, sym}
 use Rattle.std.specs.List.{list_any}
 use Rattle.am_term.specs.declared.id.SortId.{SortId}
 use Rattle.am_term.specs.declared.term.Term.{Term}

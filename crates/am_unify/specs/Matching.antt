@@ -46,14 +46,15 @@ abbrev pub held : List (ℕ × Term) → ℕ → Term → Option Bool
 held [] n t = None
 held (b ∷ bs) n t = if b.0 == n then Some (same_term b.1 t) else held bs n t
 
-abbrev pub Matcher : Type 0
-Matcher = Term → List (ℕ × Term) → Option (List (ℕ × Term))
+-- what is bound once a pattern is matched with a term, by the term and by what is bound so far
+abbrev pub PatternMatch : Type 0
+PatternMatch = Term → List (ℕ × Term) → Option (List (ℕ × Term))
 
 abbrev pub and_then : Option (List (ℕ × Term)) → (List (ℕ × Term) → Option (List (ℕ × Term))) → Option (List (ℕ × Term))
 and_then None next = None
 and_then (Some bs) next = next bs
 
-abbrev pub match_all : List Matcher → List Term → List (ℕ × Term) → Option (List (ℕ × Term))
+abbrev pub match_all : List PatternMatch → List Term → List (ℕ × Term) → Option (List (ℕ × Term))
 match_all [] [] bs = Some bs
 match_all [] (t ∷ ts) bs = None
 match_all (m ∷ ms) [] bs = None
@@ -65,29 +66,29 @@ module _ (sig : Signature) (ins : List SortId) where
   bind_held n s t bs (Some false) = None
   bind_held n s t bs None = if fits_place sig (sort_of sig ins t) s then Some (insert_binding n t bs) else None
 
-  abbrev pub match_app : SymId → List Matcher → Term-F Term → List (ℕ × Term) → Option (List (ℕ × Term))
+  abbrev pub match_app : SymId → List PatternMatch → Term-F Term → List (ℕ × Term) → Option (List (ℕ × Term))
   match_app f ms (Term-F.Var n s) bs = None
   match_app f ms (Term-F.In k) bs = None
   match_app f ms (Term-F.App g ts) bs = if f.0 == g.0 && length ms == length ts then match_all ms ts bs else None
 
-  abbrev pub match_step : Term-F Matcher → Matcher
+  abbrev pub match_step : Term-F PatternMatch → PatternMatch
   match_step (Term-F.Var n s) t bs = bind_held n s t bs (held bs n t)
   match_step (Term-F.In k) t bs = if is_in k (out-Term t) then Some bs else None
   match_step (Term-F.App f ms) t bs = match_app f ms (out-Term t) bs
 
-  unfoldable pub matched : Term → Matcher
-  matched = fold-Term Matcher match_step
+  unfoldable pub matched : Term → PatternMatch
+  matched = fold-Term PatternMatch match_step
 
   pub matched-Var : (n : ℕ) (s : SortId) (t : Term) (bs : List (ℕ × Term)) → matched (Var n s) t bs ≡ bind_held n s t bs (held bs n t)
   unfolding matched
-  matched-Var n s t bs = ap (λ (m : Matcher). m t bs) (fold-Var Matcher match_step n s)
+  matched-Var n s t bs = ap (λ (m : PatternMatch). m t bs) (fold-Var PatternMatch match_step n s)
 
   pub matched-In : (k : ℕ) (t : Term) (bs : List (ℕ × Term)) → matched (In k) t bs ≡ (if is_in k (out-Term t) then Some bs else None)
   unfolding matched
-  matched-In k t bs = ap (λ (m : Matcher). m t bs) (fold-In Matcher match_step k)
+  matched-In k t bs = ap (λ (m : PatternMatch). m t bs) (fold-In PatternMatch match_step k)
 
   pub matched-App : (f : SymId) (args : List Term) (t : Term) (bs : List (ℕ × Term)) → matched (App f args) t bs ≡ match_app f (map matched args) (out-Term t) bs
   unfolding matched
-  matched-App f args t bs = ap (λ (m : Matcher). m t bs) (fold-App Matcher match_step f args)
+  matched-App f args t bs = ap (λ (m : PatternMatch). m t bs) (fold-App PatternMatch match_step f args)
 
 pub ruleset matched_laws = (matched-Var, matched-In, matched-App)
