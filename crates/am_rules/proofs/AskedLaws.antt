@@ -10,7 +10,7 @@ use Rattle.am_unify.proofs.Renamed.{heads, tails}
 use Rattle.am_unify.proofs.Standing.{number_is, number_same}
 use Rattle.am_rules.specs.Parts.{map_atom, answer_terms}
 use Rattle.am_rules.specs.Resolution.{AtomsMeet, AnswersMeet}
-use Rattle.am_rules.specs.Asked.{Pairs, zipped, atom_pairs, answer_pairs, both, asked}
+use Rattle.am_rules.specs.Asked.{Pairs, zipped, atom_pairs, answer_pairs, both_pairs, asked}
 use Rattle.am_rules.proofs.Lifts.{all-append}
 use Rattle.am_term.specs.Parts.{parts_of}
 
@@ -88,7 +88,7 @@ module _ (f g : Term → Term) where
   unite-both [] qs h = (tt, h)
   unite-both (p ∷ ps) qs h = let r = unite-both ps qs h.1 in ((h.0, r.0), r.1)
 
-  pub both-told : (P Q : Type 0) (a b : Pairs) → Told P a → Told Q b → Told (P × Q) (both a b)
+  pub both-told : (P Q : Type 0) (a b : Pairs) → Told P a → Told Q b → Told (P × Q) (both_pairs a b)
   both-told P Q None b h k = λ x. h x.0
   both-told P Q (Some ps) None h k = λ x. k x.1
   both-told P Q (Some ps) (Some qs) h k = record {
@@ -138,7 +138,7 @@ module _ (S T : Term → Type 0) where
   answers-both (Some ts) None h k = tt
   answers-both (Some ts) (Some us) h k = zipped-both ts us h k
 
-  pub both-both : (a b : Pairs) → Holding a → Holding b → Holding (both a b)
+  pub both-both : (a b : Pairs) → Holding a → Holding b → Holding (both_pairs a b)
   both-both None b h k = tt
   both-both (Some ps) None h k = tt
   both-both (Some ps) (Some qs) h k = all-append (λ (e : Term × Term). S e.0 × T e.1) ps qs h k

@@ -15,8 +15,8 @@ use Rattle.am_clause.proofs.Places.{same_variable-sound, same_variable-refl}
 use Rattle.am_clause.proofs.Bijections.{read-place}
 use Rattle.am_unify.specs.Substitution.{Substitution, apply, apply-Var, apply-In, apply-App}
 use Rattle.am_clause.proofs.Renames.{moved, Within, within-right, within-left}
-use Rattle.am_rules.specs.Row.{row, in_lists, variables_of, renamed_lists}
-use Rattle.am_rules.specs.Most.{AreInstances, AreMostGeneral, IsUndone, AreRenamed}
+use Rattle.am_rules.specs.Row.{row, in_lists, variables_of_made, renamed_lists}
+use Rattle.am_rules.specs.Most.{AreInstances, AreMostGeneralBySubstitution, IsUndone, AreRenamed}
 use Rattle.am_rules.specs.Made.{IsMade, IsNatural}
 use Rattle.am_rules.proofs.Standing.{never, within-cases, lists-agree}
 use Rattle.am_rules.proofs.Uniques.{most-renamed}
@@ -89,7 +89,7 @@ module _ (sig : Signature) (ins : List SortId) (to back : Numbers) (ws : List (L
           (λ v i. ap (λ k. a.by k v.1) (u.undone v.0 v.1 i)));
     }
 
-  pub most-kept : (Such : List (List Term) → Type 0) → Such (renamed_lists to ws) → AreMostGeneral sig ins Such ws → AreMostGeneral sig ins Such (renamed_lists to ws)
+  pub most-kept : (Such : List (List Term) → Type 0) → Such (renamed_lists to ws) → AreMostGeneralBySubstitution sig ins Such ws → AreMostGeneralBySubstitution sig ins Such (renamed_lists to ws)
   most-kept Such h g = record { holds = h; factors = λ vs k. renamed-instances vs (g.factors vs k) }
 
 -- numbers of places are undone by reading the places
@@ -104,25 +104,25 @@ number-there (w ∷ ws) zero v e = let i : w ≡ v = cc in ap (λ (x : Variable)
 number-there (w ∷ ws) (suc k) v e = number-there ws k v e
 
 abbrev pub back_of : Made → Numbers
-back_of m k s = number_there (variables_of m) k
+back_of m k s = number_there (variables_of_made m) k
 
-pub places-undone : (m : Made) → IsUndone (places_in (variables_of m)) (back_of m) (variables_in m)
-places-undone m = record { undone = λ n s i. number-there (variables_of m) (places_in (variables_of m) n s) (n, s) (read-place (variables_of m) (n, s) (listed (n, s) m i)) }
+pub places-undone : (m : Made) → IsUndone (places_in (variables_of_made m)) (back_of m) (variables_in m)
+places-undone m = record { undone = λ n s i. number-there (variables_of_made m) (places_in (variables_of_made m) n s) (n, s) (read-place (variables_of_made m) (n, s) (listed (n, s) m i)) }
 
 pub renumbered-numbered : (m : Made) → AreNumbered (variables_in (numbered_made m))
 unfolding numbered_made
 renumbered-numbered m k v e =
-    let r : (w : Variable) × (slice_get (variables_of m) k ≡ Some w) × (moved (places_in (variables_of m)) w ≡ v) =
-    read-map (moved (places_in (variables_of m))) (variables_of m) k v (sym (ap (λ (vs : List Variable). slice_get vs k) (variables-moved (places_in (variables_of m)) (back_of m) m (places-undone m))) ∙ e) in
-    sym (ap (λ (x : Variable). x.0) r.2) ∙ place-read (variables_of m) (apart-distinct (variables_in m)) k r.0 r.1
+    let r : (w : Variable) × (slice_get (variables_of_made m) k ≡ Some w) × (moved (places_in (variables_of_made m)) w ≡ v) =
+    read-map (moved (places_in (variables_of_made m))) (variables_of_made m) k v (sym (ap (λ (vs : List Variable). slice_get vs k) (variables-moved (places_in (variables_of_made m)) (back_of m) m (places-undone m))) ∙ e) in
+    sym (ap (λ (x : Variable). x.0) r.2) ∙ place-read (variables_of_made m) (apart-distinct (variables_in m)) k r.0 r.1
 
 -- what is made of most general lists, numbered
 module _ (sig : Signature) (ins : List SortId) (Such : List (List Term) → Type 0) (conclusion : List (List Term) → Clause) (natural : IsNatural Such conclusion) where
-  pub made-numbered : (ws : List (List Term)) → AreMostGeneral sig ins Such ws → IsMade sig ins Such conclusion (numbered_made (row (conclusion ws) ws))
+  pub made-numbered : (ws : List (List Term)) → AreMostGeneralBySubstitution sig ins Such ws → IsMade sig ins Such conclusion (numbered_made (row (conclusion ws) ws))
   unfolding numbered_made
   made-numbered ws g =
       let m : Made = row (conclusion ws) ws in
-      let to : Numbers = places_in (variables_of m) in
+      let to : Numbers = places_in (variables_of_made m) in
       let u : IsUndone to (back_of m) (in_lists ws) = record { undone = λ n s i. (places-undone m).undone n s (within-right (n, s) (in_clause (conclusion ws)) (in_lists ws) i) } in
       record {
         general = most-kept sig ins to (back_of m) ws u Such (natural.such to (back_of m) ws u g.holds) g;

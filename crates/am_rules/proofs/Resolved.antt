@@ -10,7 +10,7 @@ use Rattle.am_clause.specs.Variables.{Variable, variables}
 use Rattle.am_unify.specs.declared.substitution.Subst.{Subst}
 use Rattle.am_unify.specs.Unifier.{bindings_of}
 use Rattle.am_rules.specs.Asked.{Pairs}
-use Rattle.am_rules.specs.Solving.{images, solved_apart, made_of, made_by, solved}
+use Rattle.am_rules.specs.Solving.{images, solved_apart, made_of, made_with_bindings, solved}
 use Rattle.am_rules.proofs.Walks.{both-apart}
 
 pub ruleset solving = (common_steps, both-apart)
@@ -29,4 +29,4 @@ pub made-is : (sig : Signature) (ins : List SortId) (p q : Clause) (make : List 
 made-is sig ins p q make ps k n vs o found m a b c solving is e =
     let many : k ≡ length (variables p) = a ∙ (b ∙ ap length c) in
     ap Some (e ∙ ap (λ i. made_of make (images found.0 0 (variables p)) (images found.0 i (variables q))) many)
-    ∙ ap (option_map (made_by p q make)) (sym (ap (λ i. solved_apart sig ins i ps) (sym many) ∙ (sym solving ∙ ap bindings_of is)))
+    ∙ ap (option_map (made_with_bindings p q make)) (sym (ap (λ i. solved_apart sig ins i ps) (sym many) ∙ (sym solving ∙ ap bindings_of is)))

@@ -19,7 +19,7 @@ use Rattle.am_rules.specs.Row.{in_lists, renamed_lists}
 use Rattle.am_rules.specs.Most.{IsUndone}
 use Rattle.am_rules.specs.Made.{IsNatural}
 use Rattle.am_rules.specs.Parts.{map_atom, literal_under, answer_under, all_but}
-use Rattle.am_rules.specs.Resolution.{atom_at, AtomsMeet, AnswersMeet, ResolveMeets, resolved, resolvent}
+use Rattle.am_rules.specs.Resolution.{atom_at, AtomsMeet, AnswersMeet, ResolveMeets, resolved_literals, resolvent}
 use Rattle.am_rules.specs.Binding.{Binds, OfTwo, of_two}
 use Rattle.am_rules.proofs.Standing.{Each, each-left, each-right, each-both}
 use Rattle.am_rules.proofs.Lifts.{EachAtom, clause, all-by, atom-by, literals-by, answer-by, literals-inner, answer-inner, all-after, atom-after, literals-after, answer-after, renamed-literals, renamed-answer, literals-each, each-literals, all-without, all-append, all-weaker}
@@ -111,14 +111,14 @@ module _ (sig : Signature) (ins : List SortId) (p : Clause) (i : ℕ) (q : Claus
     weaken : (P : Variable → Type 0) → ((v : Variable) → P v → In v) → (l : Literal) → EachAtom P l → EachAtom In l
     weaken P h l e v m = h v (e v m)
 
-    literals_inner : AllByRecursion (EachAtom In) (resolved p i q j xs ys)
+    literals_inner : AllByRecursion (EachAtom In) (resolved_literals p i q j xs ys)
     literals_inner = all-append (EachAtom In) (map (literal_under xs) (all_but i p.literals)) (map (literal_under ys) (all_but j q.literals))
         (all-weaker (EachAtom (λ v. Within v (occurrences_all xs))) (EachAtom In) (weaken (λ v. Within v (occurrences_all xs)) from_left) (map (literal_under xs) (all_but i p.literals)) (literals-inside p first xs left_long i))
         (all-weaker (EachAtom (λ v. Within v (occurrences_all ys))) (EachAtom In) (weaken (λ v. Within v (occurrences_all ys)) from_right) (map (literal_under ys) (all_but j q.literals)) (literals-inside q second ys right_long j))
 
     clause_inner : Each In (in_clause (resolvent p i q j xs ys))
-    clause_inner = each-both In (in_literals (merged (resolved p i q j xs ys))) (in_answer (shared (answer_under xs p.answer) (answer_under ys q.answer)))
-        (each-literals In (merged (resolved p i q j xs ys)) (all-merged (EachAtom In) (resolved p i q j xs ys) literals_inner))
+    clause_inner = each-both In (in_literals (merged (resolved_literals p i q j xs ys))) (in_answer (shared (answer_under xs p.answer) (answer_under ys q.answer)))
+        (each-literals In (merged (resolved_literals p i q j xs ys)) (all-merged (EachAtom In) (resolved_literals p i q j xs ys) literals_inner))
         (answer-either In (answer_under xs p.answer) (answer_under ys q.answer)
         (λ v m. from_left v (answer-inside p first xs left_long v m))
         (λ v m. from_right v (answer-inside q second ys right_long v m)))
@@ -136,12 +136,12 @@ module _ (sig : Signature) (ins : List SortId) (p : Clause) (i : ℕ) (q : Claus
         };
       }
 
-      literals_renamed : merged (resolved p i q j (renamed_all to xs) (renamed_all to ys)) ≡ map (renamed_literal to) (merged (resolved p i q j xs ys))
+      literals_renamed : merged (resolved_literals p i q j (renamed_all to xs) (renamed_all to ys)) ≡ map (renamed_literal to) (merged (resolved_literals p i q j xs ys))
       literals_renamed =
           ap (λ ls. merged (ls ++ map (literal_under (renamed_all to ys)) (all_but j q.literals))) (literals-part p first xs left_long to i)
           ∙ (ap (λ ls. merged (map (renamed_literal to) (map (literal_under xs) (all_but i p.literals)) ++ ls)) (literals-part q second ys right_long to j)
           ∙ (ap merged (sym (map-append (renamed_literal to) (map (literal_under xs) (all_but i p.literals)) (map (literal_under ys) (all_but j q.literals))))
-          ∙ merged-renamed to back (resolved p i q j xs ys) (all-weaker (EachAtom In) (EachAtom (Undone to back)) (λ l e v m. u.undone v.0 v.1 (e v m)) (resolved p i q j xs ys) literals_inner)))
+          ∙ merged-renamed to back (resolved_literals p i q j xs ys) (all-weaker (EachAtom In) (EachAtom (Undone to back)) (λ l e v m. u.undone v.0 v.1 (e v m)) (resolved_literals p i q j xs ys) literals_inner)))
 
       answer_renamed : shared (answer_under (renamed_all to xs) p.answer) (answer_under (renamed_all to ys) q.answer) ≡ renamed_answer to (shared (answer_under xs p.answer) (answer_under ys q.answer))
       answer_renamed =
@@ -152,7 +152,7 @@ module _ (sig : Signature) (ins : List SortId) (p : Clause) (i : ℕ) (q : Claus
       conclusion_renamed : resolvent p i q j (renamed_all to xs) (renamed_all to ys) ≡ renamed_clause to (resolvent p i q j xs ys)
       conclusion_renamed =
           ap (λ ls. clause ls (shared (answer_under (renamed_all to xs) p.answer) (answer_under (renamed_all to ys) q.answer))) literals_renamed
-          ∙ ap (clause (map (renamed_literal to) (merged (resolved p i q j xs ys)))) answer_renamed
+          ∙ ap (clause (map (renamed_literal to) (merged (resolved_literals p i q j xs ys)))) answer_renamed
 
   such : (to back : Numbers) (ws : List (List Term)) → IsUndone to back (in_lists ws) → OfTwo (Binds sig ins p q (ResolveMeets p i q j)) ws → OfTwo (Binds sig ins p q (ResolveMeets p i q j)) (renamed_lists to ws)
   such to back [] u h = h

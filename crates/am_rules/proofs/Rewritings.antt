@@ -38,7 +38,7 @@ use Rattle.am_rules.specs.Most.{IsUndone}
 use Rattle.am_rules.specs.Paramodulation.{TermsMeet, ParaMeets, side_in, part_in, paramodulant, sorted_only}
 use Rattle.am_rules.specs.Resolution.{AnswersMeet}
 use Rattle.am_rules.specs.Rewriting.{own_terms, found_match, rewriting_made, rewriting_found}
-use Rattle.am_rules.specs.Row.{row, in_lists, variables_of}
+use Rattle.am_rules.specs.Row.{row, in_lists, variables_of_made}
 use Rattle.am_rules.specs.Solving.{images}
 use Rattle.am_rules.proofs.Answering.{AreTwo, are-two}
 use Rattle.am_rules.proofs.Standing.{never, Each}
@@ -132,7 +132,7 @@ pub such-numbered : (Such : List (List Term) → Type 0) (conclusion : List (Lis
 unfolding numbered_made
 such-numbered Such conclusion natural ws h =
     let m : Made = row (conclusion ws) ws in
-    let to : Numbers = places_in (variables_of m) in
+    let to : Numbers = places_in (variables_of_made m) in
     let u : IsUndone to (back_of m) (in_lists ws) = record { undone = λ n s j. (places-undone m).undone n s (within-right (n, s) (in_clause (conclusion ws)) (in_lists ws) j) } in
     record {
       holds = natural.such to (back_of m) ws u h;

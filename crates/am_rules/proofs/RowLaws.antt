@@ -15,7 +15,7 @@ use Rattle.am_clause.proofs.Members.{any-distinct}
 use Rattle.am_clause.proofs.Places.{same_variable-refl, same_variable-sound}
 use Rattle.am_clause.proofs.Bijections.{distinct-map, place-map, read-place}
 use Rattle.am_clause.proofs.Renames.{moved, Within, terms-moved, clause-moved, clause-twice, clause-agrees, clause-itself, term-twice, after, itself}
-use Rattle.am_rules.specs.Row.{row, in_lists, variables_of, renamed_lists}
+use Rattle.am_rules.specs.Row.{row, in_lists, variables_of_made, renamed_lists}
 use Rattle.am_rules.specs.Most.{IsUndone}
 use Rattle.am_rules.proofs.Standing.{Each, each-left, each-right, lists-agree}
 use Rattle.am_clause.specs.NumberedMade.{variables_in, renamed_made, numbered_made}
@@ -101,18 +101,18 @@ module _ (to back : Numbers) (vs : List Variable) (u : IsUndone to back vs) wher
 -- the laws
 
 module _ (to back : Numbers) (m : Made) (u : IsUndone to back (variables_in m)) where
-  pub variables-moved : variables_of (renamed_made to m) ≡ map (moved to) (variables_of m)
+  pub variables-moved : variables_of_made (renamed_made to m) ≡ map (moved to) (variables_of_made m)
   variables-moved = ap (distinct same_variable) (made-moved to m) ∙ distinct-moved to back (variables_in m) u
 
   pub renumbered-moved : numbered_made (renamed_made to m) ≡ numbered_made m
   unfolding numbered_made
-  renumbered-moved = made-twice (places_in (variables_of (renamed_made to m))) to m
-      ∙ made-agrees (after (places_in (variables_of (renamed_made to m))) to) (places_in (variables_of m)) m
+  renumbered-moved = made-twice (places_in (variables_of_made (renamed_made to m))) to m
+      ∙ made-agrees (after (places_in (variables_of_made (renamed_made to m))) to) (places_in (variables_of_made m)) m
       (λ v h. ap (λ (vs : List Variable). places_in (distinct same_variable vs) (to v.0 v.1) v.1) (made-moved to m) ∙ place-moved to back (variables_in m) u v h)
 
-pub listed : (v : Variable) (m : Made) → Within v (variables_in m) → Within v (variables_of m)
+pub listed : (v : Variable) (m : Made) → Within v (variables_in m) → Within v (variables_of_made m)
 listed v m h = within-distinct v (variables_in m) ∙ h
 
 pub numbered-fixed : (m : Made) → AreNumbered (variables_in m) → numbered_made m ≡ m
 unfolding numbered_made
-numbered-fixed m h = made-agrees (places_in (variables_of m)) itself m (λ v i. sym (h (places_in (variables_of m) v.0 v.1) v (read-place (variables_of m) v (listed v m i)))) ∙ made-itself m
+numbered-fixed m h = made-agrees (places_in (variables_of_made m)) itself m (λ v i. sym (h (places_in (variables_of_made m) v.0 v.1) v (read-place (variables_of_made m) v (listed v m i)))) ∙ made-itself m

@@ -22,7 +22,7 @@ use Rattle.am_rules.specs.Parts.{answer_terms}
 use Rattle.am_rules.specs.Resolution.{atom_at}
 use Rattle.am_rules.specs.Binding.{Binds, OfTwo, of_two}
 use Rattle.am_rules.specs.Asked.{Pairs}
-use Rattle.am_rules.specs.Solving.{apart, images, solved_apart, made_by}
+use Rattle.am_rules.specs.Solving.{apart, images, solved_apart, made_with_bindings}
 use Rattle.am_rules.proofs.Standing.{Each, each-left, each-right, each-head, each-tail}
 use Rattle.am_rules.proofs.Lifts.{literals-each}
 use Rattle.am_rules.proofs.AskedLaws.{Told, Tells, Holding}
@@ -140,15 +140,15 @@ module _ (sig : Signature) (ins : List SortId) (p q : Clause) (first : IsNumbere
           }
       factors (us ∷ vs ∷ zs ∷ ws) k = absurd k
 
-      made : IsMade sig ins Such (of_two make) (made_by p q make bs)
+      made : IsMade sig ins Such (of_two make) (made_with_bindings p q make bs)
       made = made-numbered sig ins Such (of_two make) natural (xs ∷ ys ∷ []) (record { holds = such; factors = factors })
 
-    by_solution : (o : Option (List (ℕ × Term))) → IsSolved sig ins ss (apart (length (variables p)) ps) o → IsAnswer sig ins Such (of_two make) (option_map (made_by p q make) o)
+    by_solution : (o : Option (List (ℕ × Term))) → IsSolved sig ins ss (apart (length (variables p)) ps) o → IsAnswer sig ins Such (of_two make) (option_map (made_with_bindings p q make) o)
     by_solution None h = no-unifier h
     by_solution (Some bs) h = made bs h
 
   pub by_pairs : (o : Pairs) → ((f g : Term → Term) → Told f g (Meets f g) o) → Holding S T o
-      → IsAnswer sig ins Such (of_two make) (option_map (made_by p q make) (solved_apart sig ins (length (variables p)) o))
+      → IsAnswer sig ins Such (of_two make) (option_map (made_with_bindings p q make) (solved_apart sig ins (length (variables p)) o))
   by_pairs None told hold = no-pairs told
   by_pairs (Some ps) told hold = by_solution ps told hold (mgu sig ins (apart (length (variables p)) ps))
       (mgu-solved sig ins (ss ps told hold) (apart (length (variables p)) ps) (apart-posed sig ins (variables p) (variables q) first second ps hold))

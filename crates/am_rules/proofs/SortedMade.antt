@@ -28,7 +28,7 @@ use Rattle.am_clause.specs.declared.row.Made.{Made}
 use Rattle.am_rules.specs.Made.{IsMade}
 use Rattle.am_rules.specs.Binding.{Binds, BindsOne, OfOne, OfTwo, of_one, of_two}
 use Rattle.am_rules.specs.Parts.{answer_terms, atom_under, literal_under, answer_under, all_but}
-use Rattle.am_rules.specs.Resolution.{ResolveMeets, resolved, resolvent}
+use Rattle.am_rules.specs.Resolution.{ResolveMeets, resolved_literals, resolvent}
 use Rattle.am_rules.specs.Alone.{kept}
 use Rattle.am_rules.proofs.Standing.{never, Each, each-left, each-right, each-head, each-tail}
 use Rattle.am_rules.proofs.Lifts.{EachAtom, literals-each, all-without, all-append}
@@ -155,8 +155,8 @@ either-has sig ins (Some ts) u h k = h
 pub resolvent-sorted : (sig : Signature) (ins : List SortId) (p : Clause) (i : ℕ) (q : Clause) (j : ℕ) → IsNumbered p → IsNumbered q → is_sorted_clause sig ins p ≡ true → is_sorted_clause sig ins q ≡ true
     → (xs ys : List Term) → Binds sig ins p q (ResolveMeets p i q j) xs ys → is_sorted_clause sig ins (resolvent p i q j xs ys) ≡ true
 resolvent-sorted sig ins p i q j a b d e xs ys h =
-    and_both (list_all (is_sorted_literal sig ins) (merged (resolved p i q j xs ys))) (is_sorted_answer sig ins (shared (answer_under xs p.answer) (answer_under ys q.answer)))
-    (tests-all (is_sorted_literal sig ins) (merged (resolved p i q j xs ys)) (all-merged (Sorted sig ins) (resolved p i q j xs ys)
+    and_both (list_all (is_sorted_literal sig ins) (merged (resolved_literals p i q j xs ys))) (is_sorted_answer sig ins (shared (answer_under xs p.answer) (answer_under ys q.answer)))
+    (tests-all (is_sorted_literal sig ins) (merged (resolved_literals p i q j xs ys)) (all-merged (Sorted sig ins) (resolved_literals p i q j xs ys)
     (all-append (Sorted sig ins) (map (literal_under xs) (all_but i p.literals)) (map (literal_under ys) (all_but j q.literals)) (share-sorted sig ins p a xs h.left d i) (share-sorted sig ins q b ys h.right e j))))
     (answer-tests sig ins (shared (answer_under xs p.answer) (answer_under ys q.answer)) ∙ tests-all (λ t. is_some (sort_of sig ins t)) (answer_terms (shared (answer_under xs p.answer) (answer_under ys q.answer)))
     (either-has sig ins (answer_under xs p.answer) (answer_under ys q.answer) (answer-share sig ins p a xs h.left d) (answer-share sig ins q b ys h.right e)))

@@ -17,7 +17,7 @@ use Rattle.am_clause.specs.Merge.{merged}
 use Rattle.am_clause.specs.Bound.{instance_answer}
 use Rattle.am_clause.specs.Rules.{factor, reflex, resolve, have_one_atom, equates_sides, go_together, shared}
 use Rattle.am_rules.specs.Parts.{map_atom, map_literal, map_answer, all_but}
-use Rattle.am_rules.specs.Resolution.{atom_at, AtomsMeet, AnswersMeet, ResolveMeets, resolved, resolvent}
+use Rattle.am_rules.specs.Resolution.{atom_at, AtomsMeet, AnswersMeet, ResolveMeets, resolved_literals, resolvent}
 use Rattle.am_rules.specs.Alone.{SidesMeet, FactorMeets, ReflexMeets, kept}
 use Rattle.am_rules.proofs.Standing.{never}
 use Rattle.am_rules.proofs.Lifts.{literal, clause}
@@ -133,7 +133,7 @@ module _ (sig : Signature) (ins : List SortId) (p : Clause) (i : ℕ) (q : Claus
   resolvent-is xs ys =
       ap (λ ls. clause (merged (ls ++ without (map (instance_literal ys) q.literals) j)) (shared (instance_answer xs p.answer) (instance_answer ys q.answer))) (rest-is xs i p.literals)
       ∙ (ap (λ ls. clause (merged (map (map_literal (instance xs)) (all_but i p.literals) ++ ls)) (shared (instance_answer xs p.answer) (instance_answer ys q.answer))) (rest-is ys j q.literals)
-      ∙ ap (clause (merged (resolved p i q j xs ys))) (shared-is xs ys p.answer q.answer))
+      ∙ ap (clause (merged (resolved_literals p i q j xs ys))) (shared-is xs ys p.answer q.answer))
 
   pub resolve-tied : IsTiedTwo sig ins (resolve i j) p q (ResolveMeets p i q j) (resolvent p i q j)
   resolve-tied = record {

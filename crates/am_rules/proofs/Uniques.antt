@@ -16,7 +16,7 @@ use Rattle.am_unify.specs.Substitution.{Substitution, apply, applies, apply-Var,
 use Rattle.am_unify.proofs.Steps.{is_var, is_in, is_app}
 use Rattle.am_unify.proofs.Renamed.{app-var}
 use Rattle.am_rules.specs.Row.{in_lists}
-use Rattle.am_rules.specs.Most.{AreInstances, AreMostGeneral, AreRenamed}
+use Rattle.am_rules.specs.Most.{AreInstances, AreMostGeneralBySubstitution, AreRenamed}
 use Rattle.am_rules.proofs.Standing.{never, Each, within-var, lists-agree, lists-stay, lists-bring}
 
 in-var : (k n : ℕ) (s : SortId) → In k ≡ Var n s → ⊥
@@ -94,5 +94,5 @@ module _ (sig : Signature) (ins : List SortId) (ws vs : List (List Term)) (a : A
   }
 
 -- any two most general lists differ by a renaming
-pub most-renamed : (sig : Signature) (ins : List SortId) (Such : List (List Term) → Type 0) (ws vs : List (List Term)) → AreMostGeneral sig ins Such ws → AreMostGeneral sig ins Such vs → AreRenamed vs ws
+pub most-renamed : (sig : Signature) (ins : List SortId) (Such : List (List Term) → Type 0) (ws vs : List (List Term)) → AreMostGeneralBySubstitution sig ins Such ws → AreMostGeneralBySubstitution sig ins Such vs → AreRenamed vs ws
 most-renamed sig ins Such ws vs g h = renamed-lists sig ins ws vs (g.factors vs h.holds) (h.factors ws g.holds)

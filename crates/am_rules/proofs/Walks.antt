@@ -12,7 +12,7 @@ use Rattle.am_term.proofs.Spans.{span-le-spans}
 use Rattle.am_term.proofs.Members.{member-zero, member-past, member-within, member-get, with_member-set}
 use Rattle.am_rules.specs.Replacing.{changed, put_part, put_instance, put_instances}
 use Rattle.am_unify.proofs.Walks.{bound_at, removed_first, zip-stopped}
-use Rattle.am_rules.specs.Asked.{Pairs, both}
+use Rattle.am_rules.specs.Asked.{Pairs, both_pairs}
 use Rattle.am_rules.specs.Parts.{all_but, added_unless, literal_under}
 use Rattle.am_rules.specs.Solving.{apart, shifted, all_shifted, shifted_laws}
 use Rattle.std.specs.List.{flat_map}
@@ -25,7 +25,7 @@ use Rattle.am_clause.specs.Renaming.{places_in, renamed_laws}
 use Rattle.am_clause.proofs.Firsts.{with_new-distinct}
 use Rattle.am_clause.proofs.Places.{same_variable-sound, same_variable-refl, place-found, place-passed, place-end, place-within, noted-old, noted-new, noted-none, noted-both, terms-noted}
 use Rattle.am_term.proofs.Sorted.{sorting}
-use Rattle.am_rules.specs.Row.{in_lists, variables_of}
+use Rattle.am_rules.specs.Row.{in_lists, variables_of_made}
 use Rattle.am_clause.specs.NumberedMade.{variables_in, renamed_made, numbered_made}
 
 pub ruleset instancing = (common_steps, nat_tests, the_lemmas, instance_laws)
@@ -43,7 +43,7 @@ zip-apart k (t ∷ ts) (u ∷ us) = ap (λ ps. (t, shifted k u) ∷ ps) (zip-apa
 
 pub ruleset pairing = (common_steps, nat_tests, the_lemmas, zip-apart, span_laws)
 
-pub both-apart : (k : ℕ) (a b : Pairs) → option_map (apart k) (both a b) ≡ both (option_map (apart k) a) (option_map (apart k) b)
+pub both-apart : (k : ℕ) (a b : Pairs) → option_map (apart k) (both_pairs a b) ≡ both_pairs (option_map (apart k) a) (option_map (apart k) b)
 both-apart k None b = refl
 both-apart k (Some ps) None = refl
 both-apart k (Some ps) (Some qs) = ap Some (map-append (λ (e : Term × Term). (e.0, shifted k e.1)) ps qs)
@@ -79,7 +79,7 @@ lists-noted vs ws i d h =
 pub ruleset collecting = (common_steps, the_lemmas, occurrences_laws, noted-old, noted-new, noted-none, noted-both, terms-noted, lists-noted)
 
 -- all of a row
-pub row-noted : (m : Made) → with_new same_variable (variables m.clause) (in_lists m.with) ≡ variables_of m
+pub row-noted : (m : Made) → with_new same_variable (variables m.clause) (in_lists m.with) ≡ variables_of_made m
 unfolding variables
 row-noted m =
     ap (λ (vs : List Variable). with_new same_variable vs (in_lists m.with)) (sym (with_new-distinct same_variable same_variable-sound same_variable-refl (in_clause m.clause)))
@@ -87,7 +87,7 @@ row-noted m =
 
 pub ruleset row_collecting = (common_steps, row-noted)
 
-pub renumbered_made-is : (m : Made) → numbered_made m ≡ renamed_made (places_in (variables_of m)) m
+pub renumbered_made-is : (m : Made) → numbered_made m ≡ renamed_made (places_in (variables_of_made m)) m
 unfolding numbered_made
 renumbered_made-is m = refl
 

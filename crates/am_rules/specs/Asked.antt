@@ -22,12 +22,13 @@ answer_pairs None u = Some []
 answer_pairs (Some ts) None = Some []
 answer_pairs (Some ts) (Some us) = zipped ts us
 
-abbrev pub both : Pairs → Pairs → Pairs
-both None b = None
-both (Some ps) None = None
-both (Some ps) (Some qs) = Some (ps ++ qs)
+-- the first pairs and then the second, if both are there
+abbrev pub both_pairs : Pairs → Pairs → Pairs
+both_pairs None b = None
+both_pairs (Some ps) None = None
+both_pairs (Some ps) (Some qs) = Some (ps ++ qs)
 
 abbrev pub asked : Option Atom → Option Atom → Option (List Term) → Option (List Term) → Pairs
 asked None b o u = None
 asked (Some a) None o u = None
-asked (Some a) (Some b) o u = both (atom_pairs a b) (answer_pairs o u)
+asked (Some a) (Some b) o u = both_pairs (atom_pairs a b) (answer_pairs o u)

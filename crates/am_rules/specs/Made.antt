@@ -7,14 +7,14 @@ use Rattle.am_clause.specs.declared.clause.Clause.{Clause}
 use Rattle.am_clause.specs.declared.row.Made.{Made}
 use Rattle.am_clause.specs.Variables.{Variable, in_clause}
 use Rattle.am_clause.specs.Renaming.{Numbers, renamed_clause}
-use Rattle.am_rules.specs.Most.{AreMostGeneral, IsUndone, IsAmong}
+use Rattle.am_rules.specs.Most.{AreMostGeneralBySubstitution, IsUndone, IsAmong}
 use Rattle.am_rules.specs.Row.{in_lists, renamed_lists}
 use Rattle.am_clause.specs.Numbered.{AreNumbered}
 use Rattle.am_clause.specs.NumberedMade.{variables_in}
 
 -- `Such` says which lists of terms a rule takes, and `conclusion` what it makes of them
 pub record IsMade (sig : Signature) (ins : List SortId) (Such : List (List Term) → Type 0) (conclusion : List (List Term) → Clause) (m : Made) : Type 0 where
-  pub general : AreMostGeneral sig ins Such m.with
+  pub general : AreMostGeneralBySubstitution sig ins Such m.with
   pub concluded : m.clause ≡ conclusion m.with
   pub numbered : AreNumbered (variables_in m)
 

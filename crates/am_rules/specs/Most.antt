@@ -24,8 +24,8 @@ pub record AreInstances (sig : Signature) (ins : List SortId) (vs ws : List (Lis
   pub keeps : Keeps sig ins by (in_lists ws)
   pub equal : vs ≡ map (applies by) ws
 
--- such lists, of which all such lists are instances
-pub record AreMostGeneral (sig : Signature) (ins : List SortId) (Such : List (List Term) → Type 0) (ws : List (List Term)) : Type 0 where
+-- such lists, of which all such lists are instances by a substitution; the public word is am_clause's, by lists of terms
+pub record AreMostGeneralBySubstitution (sig : Signature) (ins : List SortId) (Such : List (List Term) → Type 0) (ws : List (List Term)) : Type 0 where
   pub holds : Such ws
   pub factors : (vs : List (List Term)) → Such vs → AreInstances sig ins vs ws
 

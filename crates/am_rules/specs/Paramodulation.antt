@@ -9,7 +9,7 @@ use Rattle.am_clause.specs.declared.clause.Clause.{Clause}
 use Rattle.am_clause.specs.declared.row.Made.{Made}
 use Rattle.am_clause.specs.declared.row.Side.{Side}
 use Rattle.am_clause.specs.Merge.{merged}
-use Rattle.am_rules.specs.Asked.{Pairs, answer_pairs, both}
+use Rattle.am_rules.specs.Asked.{Pairs, answer_pairs, both_pairs}
 use Rattle.am_rules.specs.Made.{IsMade}
 use Rattle.am_rules.specs.Parts.{literal_under, answer_under, all_but}
 use Rattle.am_rules.specs.Replacing.{other_of, put_part, changed}
@@ -56,7 +56,7 @@ term_pairs (Some t) None = None
 term_pairs (Some t) (Some u) = Some ((t, u) ∷ [])
 
 abbrev pub para_pairs : Clause → ℕ → Side → Clause → ℕ → List ℕ → Pairs
-para_pairs p j side q i path = both (term_pairs (side_in p j side) (part_in q i path)) (answer_pairs p.answer q.answer)
+para_pairs p j side q i path = both_pairs (term_pairs (side_in p j side) (part_in q i path)) (answer_pairs p.answer q.answer)
 
 abbrev pub paramodulation : Signature → List SortId → Clause → ℕ → Side → Clause → ℕ → List ℕ → Option Made
 paramodulation sig ins p j side q i path = solved sig ins p q (paramodulant p j side q i path) (para_pairs p j side q i path)

@@ -30,8 +30,8 @@ pub record ResolveMeets (p : Clause) (i : ℕ) (q : Clause) (j : ℕ) (f g : Ter
   pub answers : AnswersMeet f g p.answer q.answer
 
 -- p without i, then q without j, in their instances
-abbrev pub resolved : Clause → ℕ → Clause → ℕ → List Term → List Term → List Literal
-resolved p i q j xs ys = map (literal_under xs) (all_but i p.literals) ++ map (literal_under ys) (all_but j q.literals)
+abbrev pub resolved_literals : Clause → ℕ → Clause → ℕ → List Term → List Term → List Literal
+resolved_literals p i q j xs ys = map (literal_under xs) (all_but i p.literals) ++ map (literal_under ys) (all_but j q.literals)
 
 abbrev pub resolvent : Clause → ℕ → Clause → ℕ → List Term → List Term → Clause
-resolvent p i q j xs ys = record { literals = merged (resolved p i q j xs ys); answer = shared (answer_under xs p.answer) (answer_under ys q.answer) }
+resolvent p i q j xs ys = record { literals = merged (resolved_literals p i q j xs ys); answer = shared (answer_under xs p.answer) (answer_under ys q.answer) }

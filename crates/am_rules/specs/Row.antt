@@ -17,9 +17,9 @@ in_lists ws = flat_map occurrences_all ws
 abbrev pub row : Clause → List (List Term) → Made
 row c ws = record { clause = c; with = ws }
 
--- the different variables by their first occurrences
-abbrev pub variables_of : Made → List Variable
-variables_of m = distinct same_variable (variables_in m)
+-- the different variables of a conclusion with its lists, by their first occurrences
+abbrev pub variables_of_made : Made → List Variable
+variables_of_made m = distinct same_variable (variables_in m)
 
 abbrev pub renamed_lists : Numbers → List (List Term) → List (List Term)
 renamed_lists to = map (renamed_all to)

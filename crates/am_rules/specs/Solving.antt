@@ -52,11 +52,12 @@ solved_apart sig ins k (Some ps) = mgu sig ins (apart k ps)
 abbrev pub made_of : (List Term → List Term → Clause) → List Term → List Term → Made
 made_of make xs ys = numbered_made (row (make xs ys) (xs ∷ ys ∷ []))
 
-abbrev pub made_by : Clause → Clause → (List Term → List Term → Clause) → List (ℕ × Term) → Made
-made_by p q make bs = made_of make (images bs 0 (variables p)) (images bs (length (variables p)) (variables q))
+-- the same of the bindings of both parents' variables
+abbrev pub made_with_bindings : Clause → Clause → (List Term → List Term → Clause) → List (ℕ × Term) → Made
+made_with_bindings p q make bs = made_of make (images bs 0 (variables p)) (images bs (length (variables p)) (variables q))
 
 abbrev pub solved : Signature → List SortId → Clause → Clause → (List Term → List Term → Clause) → Pairs → Option Made
-solved sig ins p q make ps = option_map (made_by p q make) (solved_apart sig ins (length (variables p)) ps)
+solved sig ins p q make ps = option_map (made_with_bindings p q make) (solved_apart sig ins (length (variables p)) ps)
 
 abbrev pub resolution : Signature → List SortId → Clause → ℕ → Clause → ℕ → Option Made
 resolution sig ins p i q j = solved sig ins p q (resolvent p i q j) (asked (atom_at i p) (atom_at j q) p.answer q.answer)

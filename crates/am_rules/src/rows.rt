@@ -3,7 +3,7 @@ ghost use Rattle.am_clause.specs.declared.row.Made.{Made as IsRow};
 ghost use Rattle.am_clause.specs.Distinct.{with_new};
 ghost use Rattle.am_clause.specs.Variables.{same_variable, occurrences, occurrences_all};
 ghost use Rattle.am_clause.specs.Renaming.{places_in, renamed, renamed_all, renamed_atom, renamed_literal, renamed_answer};
-ghost use Rattle.am_rules.specs.Row.{in_lists, variables_of, renamed_lists};
+ghost use Rattle.am_rules.specs.Row.{in_lists, variables_of_made, renamed_lists};
 ghost use Rattle.am_clause.specs.NumberedMade.{numbered_made};
 
 use crate::numbers::numbered;
@@ -30,7 +30,7 @@ pub fn renumber_made(alloc: Global, row: &Made) -> Result<Made, NoMemory>
 // The different variables of a row by their first occurrences.
 #[tactic(auto, using(crate::proofs::Walks::row_collecting))]
 fn row_variables(alloc: Global, row: &Made) -> Result<Items<(u32, SortId)>, NoMemory>
-    ensures { IfOk result (λ vs. vs ≡ variables_of row.now) }
+    ensures { IfOk result (λ vs. vs ≡ variables_of_made row.now) }
 {
     let mut seen = clause_variables(alloc, &row.clause)?;
     collect_lists(row.with.as_slice(), &mut seen)?;
