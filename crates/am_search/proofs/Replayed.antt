@@ -10,13 +10,13 @@ use Rattle.am_clause.specs.declared.row.Rule.{Rule}
 use Rattle.am_search.proofs.Entered.{row_found}
 use Rattle.am_rules.specs.Conclusions.{factored, resolved, paramodulated, reflexed, rewritten, closed}
 use Rattle.am_search.specs.Candidates.{between, alone}
-use Rattle.am_simplify.specs.Numbering.{numbered, or_else, find_map}
+use Rattle.am_simplify.specs.Numbering.{with_numbers, or_else, find_map}
 use Rattle.am_search.specs.Members.{row_at, Member, numbered_rows, source_of, processed, is_processed, kept, is_empty, clause_row, clause_rows}
-use Rattle.am_simplify.specs.Places.{places_in}
+use Rattle.am_simplify.specs.Places.{places_of_atom}
 use Rattle.am_search.specs.Plain.{kept_or_closed, last_or, dropped_or, rewritten_or, big_or, Judged, prepare, when_quiet, begun, started, next_start, joined, turn_at, behind, rest_after, History, rows, judged, Start, at_first, Then, Choose, Infer, choices, rest, due_at, Infers, Follows, wait_list}
 use Rattle.am_search.specs.Replay.{on, on_both, only_if, replay, IsStep, Logged, StepsLaw}
 use Rattle.am_search.specs.Rules.{Rules, rules_of, rules_of-close_of, rules_of-step_of, rules_of-turn, step_row, step_rule}
-use Rattle.am_simplify.specs.NormalStep.{made_by as made_by_step, rewrite_with, rewrite_at, rewrite_in, step_without, first_to_go, normal_step}
+use Rattle.am_simplify.specs.NormalStep.{made_by_rule, rewrite_with, rewrite_at, rewrite_in, step_without, first_to_go, normal_step}
 use Rattle.am_simplify.specs.Units.{units, unit_of, unit_with, unit_side}
 use Rattle.am_simplify.specs.declared.step.RewriteMade.{RewriteMade}
 use Rattle.am_simplify.specs.declared.step.StepRule.{StepRule}
@@ -172,10 +172,10 @@ module _ (sig : Signature) (ins : List SortId) where
   find_made rs n f [] m k is = absurd (cc)
   find_made rs n f (x ∷ xs) m k is = or_made rs n (f x) (find_map f xs) m (k x) (λ r e. find_made rs n f xs r k e) is
 
-  made_so : (rs : List Row) (n : ℕ) (rule : StepRule) (o : Option Made) (m : RewriteMade) → replay sig ins rs (step_rule n rule) ≡ o → option_map (made_by_step rule) o ≡ Some m → IsStepOf rs n m
+  made_so : (rs : List Row) (n : ℕ) (rule : StepRule) (o : Option Made) (m : RewriteMade) → replay sig ins rs (step_rule n rule) ≡ o → option_map (made_by_rule rule) o ≡ Some m → IsStepOf rs n m
   made_so rs n rule None m is made = absurd (cc)
   made_so rs n rule (Some x) m is made =
-      let same : made_by_step rule x ≡ m = cc in
+      let same : made_by_rule rule x ≡ m = cc in
       subst (λ (y : RewriteMade). IsStepOf rs n y) same is
 
   rewrite_steps : (rs : List Row) (q : Member) (i : ℕ) (path : List ℕ) (us : List Unit) (m : RewriteMade) → IsAt rs q → AllByRecursion (StandsAsUnit rs) us
@@ -194,8 +194,8 @@ module _ (sig : Signature) (ins : List SortId) where
       → step_without sig ins us q.row.clause o ≡ Some m → IsStepOf rs q.number m
   without_steps rs q us (Some i) m a b is = made_so rs q.number (Reflexes i) (reflexed sig ins q.row.clause i) m (ap (λ (o : Option Row). on o (λ d. reflexed sig ins d i)) a) is
   without_steps rs q us None m a b is =
-      find_made rs q.number (rewrite_in sig ins us q.row.clause) (numbered 1 q.row.clause.literals) m
-      (λ e r here_. find_made rs q.number (rewrite_at sig ins us q.row.clause e.0) (places_in e.1.atom) r
+      find_made rs q.number (rewrite_in sig ins us q.row.clause) (with_numbers 1 q.row.clause.literals) m
+      (λ e r here_. find_made rs q.number (rewrite_at sig ins us q.row.clause e.0) (places_of_atom e.1.atom) r
       (λ path x there. rewrite_steps rs q e.0 path us x a b there) here_) is
 
   stepped : (rs : List Row) (n : ℕ) (o : Option RewriteMade) (row : Row) → ((m : RewriteMade) → o ≡ Some m → IsStepOf rs n m) → option_map (step_row n) o ≡ Some row → IsStep sig ins rs row

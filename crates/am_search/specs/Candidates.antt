@@ -5,8 +5,8 @@ use Rattle.std.specs.List.{flat_map}
 use Rattle.am_clause.specs.declared.row.Side.{Side}
 use Rattle.am_clause.specs.declared.row.Side.TheVariants.{Left, Right}
 use Rattle.am_order.specs.Order.{greater}
-use Rattle.am_simplify.specs.Numbering.{Numbered, numbered}
-use Rattle.am_simplify.specs.Places.{places_in}
+use Rattle.am_simplify.specs.Numbering.{Numbered, with_numbers}
+use Rattle.am_simplify.specs.Places.{places_of_atom}
 use Rattle.am_search.specs.Sources.{Source}
 use Rattle.am_search.specs.declared.candidate.Candidate.{Candidate}
 use Rattle.am_search.specs.declared.candidate.Candidate.TheVariants.{Factor, Reflex, Resolve, Para}
@@ -30,8 +30,8 @@ that_or_all (Some e) all = e ∷ []
 
 -- of an axiom's clause all literals; of another the first negative one, or all if there is none
 abbrev pub eligible : Bool → List Literal → List Numbered
-eligible true ls = numbered 1 ls
-eligible false ls = that_or_all (find is_negative (numbered 1 ls)) (numbered 1 ls)
+eligible true ls = with_numbers 1 ls
+eligible false ls = that_or_all (find is_negative (with_numbers 1 ls)) (with_numbers 1 ls)
 
 -- this, if the test holds
 abbrev pub only : {A : Type 0} → Bool → A → List A
@@ -82,7 +82,7 @@ abbrev pub sides : Signature → Literal → List Side
 sides sig l = if l.positive then sides_of sig l.atom else []
 
 abbrev pub paras_into : Way → ℕ → Side → Numbered → List Candidate
-paras_into way j side e = map (Para way j side e.0) (places_in e.1.atom)
+paras_into way j side e = map (Para way j side e.0) (places_of_atom e.1.atom)
 
 abbrev pub paras_side : Way → List Numbered → ℕ → Side → List Candidate
 paras_side way es j side = flat_map (paras_into way j side) es
@@ -99,7 +99,7 @@ eligible_in p = eligible p.axiom_row p.clause.literals
 
 -- of g alone: by (i, j), then by i
 unfoldable pub alone : Source → List Candidate
-alone g = factors (numbered 1 g.clause.literals) (eligible_in g) ++ reflexes (eligible_in g)
+alone g = factors (with_numbers 1 g.clause.literals) (eligible_in g) ++ reflexes (eligible_in g)
 
 -- of g and p: by (i, j); then by (j, side, i, path) from p into g; then, if p isn't g, from g into p
 unfoldable pub between : Signature → Source → Source → List Candidate

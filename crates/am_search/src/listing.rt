@@ -2,7 +2,7 @@
 ghost use Rattle.std.specs.Prelude.{IfOk, OnOk, ◌≡◌, ◌++◌, find, map};
 ghost use Rattle.std.specs.List.{flat_map};
 ghost use Rattle.am_search.specs.Candidates.{alone as is_alone, between as is_between, eligible_in, factors as all_factors, factors_at, is_negative, is_relation as is_no_equation, is_source as may_go_from, paras as all_paras, paras_at, paras_into, paras_side, reflexes as all_reflexes, resolves as all_resolves, resolves_at, sides as sides_from, that_or_all};
-ghost use Rattle.am_simplify.specs.Numbering.{numbered};
+ghost use Rattle.am_simplify.specs.Numbering.{with_numbers};
 ghost use Rattle.am_term.specs.Variables.{is_variable as is_a_variable};
 
 use crate::candidate::{Candidate, Way};
@@ -65,7 +65,7 @@ pub fn between(
 
 // The literals that inferences may use.
 fn eligible<'a>(p: &Source<'a>) -> Result<Part<'a>, NoMemory>
-    ensures { IfOk result (λ part. numbered part.first part.literals.now ≡ eligible_in p.now) }
+    ensures { IfOk result (λ part. with_numbers part.first part.literals.now ≡ eligible_in p.now) }
 {
     let literals = p.clause().literals.as_slice();
     if p.axiom_row() {
@@ -75,7 +75,7 @@ fn eligible<'a>(p: &Source<'a>) -> Result<Part<'a>, NoMemory>
 }
 
 fn first_negative(literals: &[Literal]) -> Result<Part, NoMemory>
-    ensures { IfOk result (λ part. numbered part.first part.literals.now ≡ that_or_all (find is_negative (numbered 1 literals.now)) (numbered 1 literals.now)) }
+    ensures { IfOk result (λ part. with_numbers part.first part.literals.now ≡ that_or_all (find is_negative (with_numbers 1 literals.now)) (with_numbers 1 literals.now)) }
 {
     let mut rest = literals;
     let mut n: u32 = 1;
@@ -107,7 +107,7 @@ fn add_factors(
     literals: &[Literal],
     all: &[Literal],
 ) -> Result<(), NoMemory>
-    ensures { OnOk result (out.new.items ≡ out.old.items ++ all_factors (numbered 1 all.now) (numbered first literals.now)) }
+    ensures { OnOk result (out.new.items ≡ out.old.items ++ all_factors (with_numbers 1 all.now) (with_numbers first literals.now)) }
 {
     let mut rest = literals;
     let mut i = first;
@@ -125,7 +125,7 @@ fn add_factors_at(
     literal: &Literal,
     all: &[Literal],
 ) -> Result<(), NoMemory>
-    ensures { OnOk result (out.new.items ≡ out.old.items ++ factors_at (numbered 1 all.now) (i, literal.now)) }
+    ensures { OnOk result (out.new.items ≡ out.old.items ++ factors_at (with_numbers 1 all.now) (i, literal.now)) }
 {
     let mut rest = all;
     let mut j: u32 = 1;
@@ -144,7 +144,7 @@ fn add_reflexes(
     first: u32,
     literals: &[Literal],
 ) -> Result<(), NoMemory>
-    ensures { OnOk result (out.new.items ≡ out.old.items ++ all_reflexes (numbered first literals.now)) }
+    ensures { OnOk result (out.new.items ≡ out.old.items ++ all_reflexes (with_numbers first literals.now)) }
 {
     let mut rest = literals;
     let mut i = first;
@@ -165,7 +165,7 @@ fn add_resolves(
     start: u32,
     others: &[Literal],
 ) -> Result<(), NoMemory>
-    ensures { OnOk result (out.new.items ≡ out.old.items ++ all_resolves (numbered first literals.now) (numbered start others.now)) }
+    ensures { OnOk result (out.new.items ≡ out.old.items ++ all_resolves (with_numbers first literals.now) (with_numbers start others.now)) }
 {
     let mut rest = literals;
     let mut i = first;
@@ -184,7 +184,7 @@ fn add_resolves_at(
     start: u32,
     others: &[Literal],
 ) -> Result<(), NoMemory>
-    ensures { OnOk result (out.new.items ≡ out.old.items ++ resolves_at (numbered start others.now) (i, literal.now)) }
+    ensures { OnOk result (out.new.items ≡ out.old.items ++ resolves_at (with_numbers start others.now) (i, literal.now)) }
 {
     let mut rest = others;
     let mut j = start;
@@ -248,7 +248,7 @@ fn add_paras(
     from: Part,
     into: Part,
 ) -> Result<(), NoMemory>
-    ensures { OnOk result (out.new.items ≡ out.old.items ++ all_paras sig.now way (numbered from.entry.first from.entry.literals.now) (numbered into.entry.first into.entry.literals.now)) }
+    ensures { OnOk result (out.new.items ≡ out.old.items ++ all_paras sig.now way (with_numbers from.entry.first from.entry.literals.now) (with_numbers into.entry.first into.entry.literals.now)) }
 {
     let mut rest = from.literals;
     let mut j = from.first;
@@ -278,7 +278,7 @@ fn add_paras_at(
     first: u32,
     literals: &[Literal],
 ) -> Result<(), NoMemory>
-    ensures { OnOk result (out.new.items ≡ out.old.items ++ flat_map (paras_side way (numbered first literals.now) j) sides.now) }
+    ensures { OnOk result (out.new.items ≡ out.old.items ++ flat_map (paras_side way (with_numbers first literals.now) j) sides.now) }
 {
     let mut rest = sides;
     while let [side, behind @ ..] = rest {
@@ -297,7 +297,7 @@ fn add_paras_side(
     first: u32,
     literals: &[Literal],
 ) -> Result<(), NoMemory>
-    ensures { OnOk result (out.new.items ≡ out.old.items ++ paras_side way (numbered first literals.now) j side) }
+    ensures { OnOk result (out.new.items ≡ out.old.items ++ paras_side way (with_numbers first literals.now) j side) }
 {
     let mut rest = literals;
     let mut i = first;

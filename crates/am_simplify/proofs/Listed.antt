@@ -9,7 +9,7 @@ use Rattle.am_term.specs.declared.id.SymId.{SymId}
 use Rattle.am_term.specs.declared.term.Atom.{Atom}
 use Rattle.am_term.specs.declared.term.Term.{Term}
 use Rattle.am_term.specs.declared.term.Term.TheVariants.{Var, In, App}
-use Rattle.am_simplify.specs.Places.{IsListed, IsPlace, places, places_all, places_in, places-Var, places-In, places-App}
+use Rattle.am_simplify.specs.Places.{IsListed, IsPlace, places, places_all, places_of_atom, places-Var, places-In, places-App}
 
 -- a part of a term that isn't a variable
 record IsPart (t : Term) (path : List ℕ) : Type 0 where
@@ -178,19 +178,19 @@ listed-all : (ts : List Term) → ListEach ts
 listed-all [] = λ k from number path e. absurd (let g : slice_get [] number ≡ Some e.term = e.there in cc)
 listed-all (t ∷ ts) = more-listed t ts (each-listed t) (listed-all ts)
 
-is-place : (a : Atom) (path : List ℕ) → IsListed path (places_in a) → IsPlace a path
+is-place : (a : Atom) (path : List ℕ) → IsListed path (places_of_atom a) → IsPlace a path
 is-place a path h =
     let g : GoesOn (parts_of a) 1 [] path = ends-all (parts_of a) 1 [] path h in
     let way : path ≡ suc g.number ∷ g.path = g.is ∙ ap (λ i. i ∷ g.path) (omega arith) in
     subst (IsPlace a) (sym way) (record { part = g.part.part.part; stands = ap (option_and_then (place g.path)) g.part.there ∙ g.part.part.stands; solid = g.part.part.solid })
 
-place-is : (a : Atom) (path : List ℕ) → IsPlace a path → IsListed path (places_in a)
+place-is : (a : Atom) (path : List ℕ) → IsPlace a path → IsListed path (places_of_atom a)
 place-is a [] h = absurd (let g : None ≡ Some h.part = h.stands in cc)
 place-is a (zero ∷ path) h = absurd (let g : None ≡ Some h.part = h.stands in cc)
 place-is a (suc number ∷ path) h =
     let part : IsPartOf (parts_of a) number path = found-argument (parts_of a) number path h.part h.stands h.solid in
     let way : (1 + number) ∷ path ≡ suc number ∷ path = ap (λ i. i ∷ path) (omega arith) in
-    subst (λ p. IsListed p (places_in a)) way (listed-all (parts_of a) 1 [] number path part)
+    subst (λ p. IsListed p (places_of_atom a)) way (listed-all (parts_of a) 1 [] number path part)
 
-pub place-law : (a : Atom) (path : List ℕ) → (IsListed path (places_in a) → IsPlace a path) × (IsPlace a path → IsListed path (places_in a))
+pub place-law : (a : Atom) (path : List ℕ) → (IsListed path (places_of_atom a) → IsPlace a path) × (IsPlace a path → IsListed path (places_of_atom a))
 place-law a path = (is-place a path, place-is a path)

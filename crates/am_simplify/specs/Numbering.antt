@@ -7,9 +7,9 @@ abbrev pub Numbered : Type 0
 Numbered = ℕ × Literal
 
 -- the literals, the first of which has the number n
-abbrev pub numbered : ℕ → List Literal → List Numbered
-numbered n [] = []
-numbered n (l ∷ ls) = (n, l) ∷ numbered (n + 1) ls
+abbrev pub with_numbers : ℕ → List Literal → List Numbered
+with_numbers n [] = []
+with_numbers n (l ∷ ls) = (n, l) ∷ with_numbers (n + 1) ls
 
 abbrev pub the_number : Numbered → ℕ
 the_number l = l.0

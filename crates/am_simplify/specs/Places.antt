@@ -48,8 +48,8 @@ places-App f args path = ap (λ (p : Placing). p path) (fold-App Placing places_
 pub ruleset places_laws = (places-Var, places-In, places-App)
 
 -- those of the arguments of a relation, or of the left and the right side of an equation
-abbrev pub places_in : Atom → List (List ℕ)
-places_in a = places_all 1 (parts_of a) []
+abbrev pub places_of_atom : Atom → List (List ℕ)
+places_of_atom a = places_all 1 (parts_of a) []
 
 -- the path is one of the list
 abbrev pub IsListed : List ℕ → List (List ℕ) → Type 0

@@ -73,12 +73,12 @@ is_uncomputed sig (Some ts) = list_any (has_abstract sig) ts
 abbrev pub is_open : Signature → List SortId → Clause → Bool
 is_open sig ins c = length c.literals == 0 && (is_some c.answer && is_none (closed sig ins c))
 
--- a row: its number and its clause
-abbrev pub Row : Type 0
-Row = ℕ × Clause
+-- of a row its number and its clause
+abbrev pub NumberedClause : Type 0
+NumberedClause = ℕ × Clause
 
 -- the number of the first row whose clause subsumes
-abbrev pub subsumer : Signature → List SortId → List Row → Clause → Option ℕ
+abbrev pub subsumer : Signature → List SortId → List NumberedClause → Clause → Option ℕ
 subsumer sig ins [] c = None
 subsumer sig ins (d ∷ ds) c = if subsumed_by sig ins d.1 c then Some d.0 else subsumer sig ins ds c
 
@@ -104,5 +104,5 @@ own_reason sig ins most c with =
     (reason_if (is_open sig ins c) OpenAnswer None)))
 
 -- the first reason for which a row with these bindings is dropped, beside the rows that are kept
-abbrev pub reason : Signature → List SortId → ℕ → List Row → Clause → List (List Term) → Option Reason
+abbrev pub reason : Signature → List SortId → ℕ → List NumberedClause → Clause → List (List Term) → Option Reason
 reason sig ins most kept c with = or_else (own_reason sig ins most c with) (by_subsumer (subsumer sig ins kept c))

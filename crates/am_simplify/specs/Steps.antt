@@ -9,7 +9,7 @@ use Rattle.am_clause.specs.declared.clause.Clause.{Clause}
 use Rattle.am_clause.specs.declared.row.Made.{Made}
 use Rattle.am_clause.specs.declared.row.Side.{Side}
 use Rattle.am_rules.specs.Inference.{IsStepOfOne, IsStepOfTwo}
-use Rattle.am_simplify.specs.Reasons.{Row}
+use Rattle.am_simplify.specs.Reasons.{NumberedClause}
 use Rattle.am_simplify.specs.Units.{unit_side}
 use Rattle.am_simplify.specs.declared.step.StepRule.{StepRule}
 use Rattle.am_simplify.specs.declared.step.StepRule.TheVariants.{Reflex, Rewrite}
@@ -19,7 +19,7 @@ pub record IsProper (sig : Signature) (ins : List SortId) (c : Clause) : Type 0 
   pub numbered : IsNumbered c
   pub sorted : IsTrue (is_sorted_clause sig ins c)
 
-module _ (sig : Signature) (ins : List SortId) (rows : List Row) (c : Clause) where
+module _ (sig : Signature) (ins : List SortId) (rows : List NumberedClause) (c : Clause) where
   -- a row of this number is a unit that is used from this side, and rewrites the clause
   pub record IsRewritten (row : ℕ) (side : Side) (i : ℕ) (path : List ℕ) (m : Made) : Type 0 where
     pub place : ℕ

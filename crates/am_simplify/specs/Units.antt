@@ -9,7 +9,7 @@ use Rattle.am_order.specs.Order.{greater}
 use Rattle.am_clause.specs.declared.clause.Clause.{Clause}
 use Rattle.am_clause.specs.declared.row.Side.{Side}
 use Rattle.am_clause.specs.declared.row.Side.TheVariants.{Left, Right}
-use Rattle.am_simplify.specs.Reasons.{Row}
+use Rattle.am_simplify.specs.Reasons.{NumberedClause}
 use Rattle.am_simplify.specs.declared.step.Unit.{Unit}
 
 -- the side of an equation that is greater than the other
@@ -27,7 +27,7 @@ side_of_literals sig (l ∷ m ∷ ls) = None
 abbrev pub unit_side : Signature → Clause → Option Side
 unit_side sig c = if is_none c.answer then side_of_literals sig c.literals else None
 
-abbrev pub is_unit : Signature → Row → Bool
+abbrev pub is_unit : Signature → NumberedClause → Bool
 is_unit sig row = is_some (unit_side sig row.1)
 
 abbrev pub unit_with : ℕ → Clause → Option Side → List Unit
@@ -35,11 +35,11 @@ unit_with n c None = []
 unit_with n c (Some side) = record { row = n; side = side; clause = c } ∷ []
 
 -- the row as a unit, if it is one
-abbrev pub unit_of : Signature → Row → List Unit
+abbrev pub unit_of : Signature → NumberedClause → List Unit
 unit_of sig row = unit_with row.0 row.1 (unit_side sig row.1)
 
 -- the units among the rows, in order
-abbrev pub units : Signature → List Row → List Unit
+abbrev pub units : Signature → List NumberedClause → List Unit
 units sig [] = []
 units sig (row ∷ rows) = unit_of sig row ++ units sig rows
 
@@ -59,11 +59,11 @@ with_units [] vs = vs
 with_units (u ∷ us) vs = with_unit u (with_units us vs)
 
 -- the same of rows
-abbrev pub with_row : Row → List Row → List Row
+abbrev pub with_row : NumberedClause → List NumberedClause → List NumberedClause
 with_row row [] = row ∷ []
 with_row row (r ∷ rows) = if nat_lt r.0 row.0 then r ∷ with_row row rows else row ∷ r ∷ rows
 
 -- the numbers rise
-abbrev pub AreRising : List Row → Type 0
+abbrev pub AreRising : List NumberedClause → Type 0
 AreRising [] = Prim.Unit {0}
 AreRising (row ∷ rows) = AllByRecursion (λ r. row.0 < r.0) rows × AreRising rows

@@ -1,5 +1,5 @@
 ghost use Rattle.std.specs.Prelude.{◌≡◌, ◌+◌, ◌++◌, ◌∷◌, [], IfOk, OnOk};
-ghost use Rattle.am_simplify.specs.Places.{places as places_of, places_all, places_in};
+ghost use Rattle.am_simplify.specs.Places.{places as places_of, places_all, places_of_atom};
 
 use am_term::{Atom, NoMemory, Term};
 use sqlite_items::Items;
@@ -7,7 +7,7 @@ use std::alloc::Global;
 
 /// The paths of an atom's parts that aren't variables, in preorder.
 pub fn places(alloc: Global, atom: &Atom) -> Result<Items<Items<u32>>, NoMemory>
-    ensures { IfOk result (λ ps. ps ≡ places_in atom.now) }
+    ensures { IfOk result (λ ps. ps ≡ places_of_atom atom.now) }
 {
     let mut found = Items::new(alloc);
     match atom {

@@ -1,11 +1,11 @@
 -- what was made, and what is left, is all
 use Rattle.std.specs.Prelude.{length, ◌≡◌, ◌++◌}
-use Rattle.am_simplify.specs.Numbering.{numbered}
+use Rattle.am_simplify.specs.Numbering.{with_numbers}
 use Rattle.am_search.specs.Candidates.{factors_at}
 use Rattle.am_search.proofs.listing.add_factors_at.Given as goal
 
 abbrev pub invariant-loop-rest : goal.invariant-loop-rest
-invariant-loop-rest l = l.out.items ++ factors_at (numbered l.j l.rest) (l.i, l.literal) ≡ l.fn.out.items ++ factors_at (numbered 1 l.all) (l.i, l.literal)
+invariant-loop-rest l = l.out.items ++ factors_at (with_numbers l.j l.rest) (l.i, l.literal) ≡ l.fn.out.items ++ factors_at (with_numbers 1 l.all) (l.i, l.literal)
 
 abbrev pub decreases-loop-rest : goal.decreases-loop-rest
 decreases-loop-rest l = length l.rest
