@@ -11,11 +11,10 @@ use Rattle.am_text.specs.Answers.{IsAnswer}
 use Rattle.am_theory.specs.declared.fault.TheoryFault.{TheoryFault}
 use Rattle.am_theory.specs.declared.fault.ReadError.{ReadError}
 use Rattle.am_theory.specs.declared.fault.ReadError.TheVariants as errors
-use Rattle.am_theory.specs.declared.tables.Tables.{Tables}
 use Rattle.am_theory.specs.Contents.{Contents}
 use Rattle.am_theory.specs.Limits.{file_limit, depth_limit}
 use Rattle.am_theory.specs.Reading.{◌>>=◌, Fails, Gives, declared, read_from, forms_theory, text_theory, theory}
-use Rattle.am_theory.specs.Tabled.{tabled, text_error}
+use Rattle.am_theory.specs.TextErrors.{text_error}
 
 pub read_at : (i : ℕ) (forms : List Form) (c : Contents) (d : Form) → i < length forms → read_from c (drop i forms) ≡ (declared c (get_or forms i d) >>= λ next. read_from next (drop (i + 1) forms))
 unfolding read_from
@@ -61,6 +60,6 @@ text-theory bytes f h = text-answer (length bytes) f (read file_limit depth_limi
 abbrev read_as : List Form → Result (List Form) TextFault
 read_as fs = Ok fs
 
-pub formed-theory : (bytes : List ℕ) (fs : List Form) (r : Result Tables ReadError) → read file_limit depth_limit bytes ≡ read_as fs → Gives tabled r (forms_theory (length bytes) fs) → Gives tabled r (theory bytes)
+pub formed-theory : (c : Contents) (bytes : List ℕ) (fs : List Form) (r : Result (Unit {0}) ReadError) → read file_limit depth_limit bytes ≡ read_as fs → Gives (λ _. c) r (forms_theory (length bytes) fs) → Gives (λ _. c) r (theory bytes)
 unfolding theory
-formed-theory bytes fs r e h = subst (λ (x : Result (List Form) TextFault). Gives tabled r (text_theory (length bytes) x)) (sym e) h
+formed-theory c bytes fs r e h = subst (λ (x : Result (List Form) TextFault). Gives (λ (_ : Unit {0}). c) r (text_theory (length bytes) x)) (sym e) h

@@ -1,11 +1,10 @@
 -- New names, and one more member of each list of a theory.
-use Rattle.std.specs.Prelude.{◌&&◌, ℕ, Bool, not, List, [], ◌∷◌, ◌++◌}
+use Rattle.std.specs.Prelude.{◌&&◌, ℕ, Bool, not, Option, None, List, [], ◌∷◌, ◌++◌}
 use Rattle.std.specs.List.{list_any}
 use Rattle.am_term.specs.NameLists.{is_among, are_distinct}
 use Rattle.am_theory.specs.declared.declaration.Typed.{Typed}
 use Rattle.am_theory.specs.declared.theory.Routine.{Routine}
 use Rattle.am_theory.specs.declared.theory.FortranFunction.{FortranFunction}
-use Rattle.am_theory.specs.declared.theory.LiteralDecl.{LiteralDecl}
 use Rattle.am_theory.specs.declared.theory.Axiom.{Axiom}
 use Rattle.am_theory.specs.Contents.{Contents, with_symbol, output_profile}
 use Rattle.am_theory.specs.Faults.{names_in}
@@ -23,9 +22,13 @@ abbrev pub with_outputs : Contents → List (List ℕ) → List Typed → Conten
 with_outputs c inputs [] = c
 with_outputs c inputs (o ∷ os) = with_outputs (with_symbol c (output_profile c inputs o)) inputs os
 
--- a literal more
-abbrev pub with_literal : Contents → LiteralDecl → Contents
-with_literal c l = record c { literals = c.literals ++ l ∷ [] }
+-- a sort's name more, without a parent
+abbrev pub with_named_sort : Contents → List ℕ → Contents
+with_named_sort c n = record c { sorts = c.sorts ++ n ∷ []; parents = c.parents ++ None ∷ [] }
+
+-- a copy routine more, or none for a sort that has none
+abbrev pub with_copy : Contents → Option (List ℕ) → Contents
+with_copy c copy = record c { copies = c.copies ++ copy ∷ [] }
 
 -- a listed function more
 abbrev pub with_listed : Contents → FortranFunction → Contents

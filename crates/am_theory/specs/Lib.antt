@@ -8,5 +8,5 @@ pub mod Laws
 pub mod Limits
 pub mod Lookups
 pub mod Reading
-pub mod Tabled
+pub mod TextErrors
 pub mod Traces

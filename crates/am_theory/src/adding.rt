@@ -1,59 +1,79 @@
-ghost use Rattle.std.specs.Prelude.{◌≡◌, ◌||◌, ◌++◌, ◌∷◌, ◌<◌, ◌^◌, [], Bool, true, false, List, ℕ, Option, None, Some, IfOk, IfSome, map, length, option_map};
-ghost use Rattle.am_term.specs.declared.id.SortId.{SortId};
+ghost use Rattle.std.specs.Prelude.{◌≡◌, ◌||◌, ◌++◌, ◌∷◌, ◌<◌, ◌^◌, [], List, ℕ, false, None, IfOk, IfSome, OnOk, OnErr, map, length, option_map};
 ghost use Rattle.am_term.specs.NameLists.{is_among};
-ghost use Rattle.am_syntax.specs.Positions.{position_of};
 ghost use Rattle.am_syntax.specs.Meaning.{formula_meaning};
 ghost use Rattle.am_syntax.specs.Scopes.{profile};
 ghost use Rattle.am_theory.specs.declared.fault.TheoryKind.{TheoryKind};
 ghost use Rattle.am_theory.specs.declared.declaration.Typed.{Typed};
-ghost use Rattle.am_theory.specs.Contents.{contents, axiom_scope, sort_numbers, symbol_names, next_symbol, with_symbol, output_profile, numbers_from, variable_of, extent, rep_meaning, with_decl};
+ghost use Rattle.am_theory.specs.Contents.{contents, axiom_scope, sort_numbers, next_symbol, with_symbol, output_profile, numbers_from, variable_of, extent, rep_meaning, with_decl};
 ghost use Rattle.am_theory.specs.Faults.{names_in, axiom_names, is_bad_rep, first_kind};
-ghost use Rattle.am_theory.specs.Lookups.{listed_name};
-ghost use Rattle.am_theory.specs.Additions.{are_new, with_outputs, with_literal, with_listed, with_called, with_law};
+ghost use Rattle.am_theory.specs.Additions.{with_named_sort, with_copy, with_outputs, with_listed, with_called, with_law};
 
 use crate::declaration::{Declaration, Typed, WrittenRep};
 use crate::kinds::bound_from;
 use crate::tables::Tables;
 use crate::theory::{Axiom, FortranFunction, LitValue, LiteralDecl, Rep, Routine};
 use am_syntax::{NameTable, Scope, WrittenFormula, formula_meaning};
-use am_term::{Formula, Name, NoMemory, Signature, SortId, SymId, SymKind, Symbol};
+use am_term::{Formula, Name, NoMemory, SortId, SymId, SymKind, Symbol};
 use sqlite_items::Items;
 use std::alloc::Global;
+use std::mem;
 
-/// What there is after one more declaration, which has no fault; no memory too where a number would
-/// exceed 32 bits.
-pub fn with_decl(
+/// Adds a declaration that has no fault. No memory too where a number would exceed 32 bits; then the tables may have
+/// lost anything.
+pub fn add_declaration(
     alloc: Global,
-    tables: Tables,
+    tables: &mut Tables,
     declaration: Declaration,
-) -> Result<Tables, NoMemory>
-    requires { first_kind (contents tables.theory) declaration ≡ None }
-    ensures { IfOk result (λ next. contents next.theory ≡ with_decl (contents tables.theory) declaration) }
+) -> Result<(), NoMemory>
+    requires { first_kind (contents tables.now.theory) declaration ≡ None }
+    ensures { OnOk result (contents tables.new.theory ≡ with_decl (contents tables.old.theory) declaration) }
 {
     match declaration {
-        Declaration::Sort { name, rep, copy } => with_sort(alloc, tables, name, rep, copy),
+        Declaration::Sort { name, rep, copy } => add_sort(alloc, tables, name, rep, copy),
         Declaration::Function { name, args, result } => {
-            with_function(alloc, tables, name, args.as_slice(), &result)
+            add_function(alloc, tables, name, args.as_slice(), &result)
         }
-        Declaration::Relation { name, args } => with_relation(alloc, tables, name, args.as_slice()),
-        Declaration::Literal { name, sort, value } => {
-            with_literal(alloc, tables, name, &sort, value)
-        }
+        Declaration::Relation { name, args } => add_relation(alloc, tables, name, args.as_slice()),
+        Declaration::Literal { name, sort, value } => add_literal(
+            alloc, tables, name, &sort, value,
+        ),
         Declaration::Routine {
             name,
             inputs,
             outputs,
-        } => with_routine(alloc, tables, name, inputs.as_slice(), outputs.as_slice()),
+        } => add_routine(alloc, tables, name, inputs.as_slice(), outputs.as_slice()),
         Declaration::Value {
             function,
             name,
             args,
             result,
-        } => with_value(alloc, tables, function, name, args.as_slice(), &result),
+        } => add_value(alloc, tables, function, name, args.as_slice(), &result),
         Declaration::Axiom { variables, formula } => {
-            with_axiom(alloc, tables, variables.as_slice(), &formula)
+            add_axiom(alloc, tables, variables.as_slice(), &formula)
         }
     }
+}
+
+// An item and its name behind the others. Without memory neither items nor names are left.
+fn push_named<T: Drop>(
+    alloc: Global,
+    names: &mut NameTable,
+    items: &mut Items<T>,
+    name: &Name,
+    item: T,
+) -> Result<(), NoMemory>
+    ensures named { OnOk result (names.new.names ≡ names.old.names ++ name.now ∷ []) }
+    ensures listed { OnOk result (items.new ≡ items.old ++ item ∷ []) }
+    ensures nameless { OnErr result (names.new.names ≡ []) }
+    ensures empty { OnErr result (items.new ≡ []) }
+{
+    let table = mem::replace(names, NameTable::new(alloc));
+    let mut list = mem::replace(items, Items::new(alloc));
+    let table = table.appending(alloc, name)?;
+    list.push(item)?;
+    *names = table;
+    *items = list;
+    Ok(())
 }
 
 fn extent(number: i64) -> u32
@@ -90,68 +110,76 @@ fn sort_rep(rep: Option<WrittenRep>) -> Option<Rep>
     }
 }
 
-// A sort more, without a parent.
-fn sig_with_sort(sig: Signature, name: Name) -> Result<Signature, NoMemory>
-    ensures sorts { IfOk result (λ next. next.sorts ≡ sig.sorts ++ name ∷ []) }
-    ensures parents { IfOk result (λ next. next.parents ≡ sig.parents ++ None ∷ []) }
-    ensures symbols { IfOk result (λ next. next.symbols ≡ sig.symbols) }
+// A sort without a parent behind the others. Without memory neither sorts nor names are left.
+fn push_sort(
+    alloc: Global,
+    names: &mut NameTable,
+    sorts: &mut Items<Name>,
+    parents: &mut Items<Option<SortId>>,
+    sort: Name,
+) -> Result<(), NoMemory>
+    ensures named { OnOk result (names.new.names ≡ names.old.names ++ sort ∷ []) }
+    ensures listed { OnOk result (sorts.new ≡ sorts.old ++ sort ∷ []) }
+    ensures orphaned { OnOk result (parents.new ≡ parents.old ++ None ∷ []) }
+    ensures nameless { OnErr result (names.new.names ≡ []) }
+    ensures empty { OnErr result (sorts.new ≡ []) }
+    ensures unrelated { OnErr result (parents.new ≡ []) }
 {
-    let Signature {
-        mut sorts,
-        mut parents,
-        symbols,
-    } = sig;
-    sorts.push(name)?;
-    parents.push(None)?;
-    Ok(Signature {
-        sorts,
-        parents,
-        symbols,
-    })
+    let table = mem::replace(names, NameTable::new(alloc));
+    let mut list = mem::replace(sorts, Items::new(alloc));
+    let mut above = mem::replace(parents, Items::new(alloc));
+    let table = table.appending(alloc, &sort)?;
+    list.push(sort)?;
+    above.push(None)?;
+    *names = table;
+    *sorts = list;
+    *parents = above;
+    Ok(())
 }
 
-fn with_copy(alloc: Global, copies: NameTable, copy: &Option<Name>) -> Result<NameTable, NoMemory>
-    ensures { IfOk result (λ t. (q : List ℕ) → is_among q t.names ≡ (is_among q (listed_name copy.now) || is_among q copies.names)) }
+fn add_named_sort(alloc: Global, tables: &mut Tables, name: Name) -> Result<(), NoMemory>
+    ensures { OnOk result (contents tables.new.theory ≡ with_named_sort (contents tables.old.theory) name) }
 {
-    match copy {
-        Some(copy) => copies.including(alloc, copy),
-        None => Ok(copies),
-    }
+    push_sort(
+        alloc,
+        &mut tables.sorts,
+        &mut tables.theory.sig.sorts,
+        &mut tables.theory.sig.parents,
+        name,
+    )
+}
+
+fn add_copy(alloc: Global, tables: &mut Tables, copy: Option<Name>) -> Result<(), NoMemory>
+    ensures { OnOk result (contents tables.new.theory ≡ with_copy (contents tables.old.theory) copy) }
+{
+    let Some(routine) = &copy else {
+        tables.theory.copies.push(None)?;
+        return Ok(());
+    };
+    let name = Name::new(alloc, routine.as_str())?;
+    push_named(
+        alloc,
+        &mut tables.copies,
+        &mut tables.theory.copies,
+        &name,
+        copy,
+    )
 }
 
 #[tactic(auto, unfolding(crate::specs::Contents::with_decl))]
-fn with_sort(
+fn add_sort(
     alloc: Global,
-    tables: Tables,
+    tables: &mut Tables,
     name: Name,
     rep: Option<WrittenRep>,
     copy: Option<Name>,
-) -> Result<Tables, NoMemory>
-    requires new { position_of name (contents tables.theory).sorts ≡ None }
-    requires represented { IfSome rep (λ r. is_bad_rep r ≡ false) }
-    ensures { IfOk result (λ next. contents next.theory ≡ with_decl (contents tables.theory) (Declaration.Sort name rep copy)) }
+) -> Result<(), NoMemory>
+    requires { IfSome rep (λ r. is_bad_rep r ≡ false) }
+    ensures { OnOk result (contents tables.new.theory ≡ with_decl (contents tables.old.theory) (Declaration.Sort name rep copy)) }
 {
-    let Tables {
-        mut theory,
-        sorts,
-        symbols,
-        variables,
-        called,
-        copies,
-    } = tables;
-    let sorts = sorts.with(alloc, &name)?;
-    let copies = with_copy(alloc, copies, &copy)?;
-    theory.sig = sig_with_sort(theory.sig, name)?;
-    theory.reps.push(sort_rep(rep))?;
-    theory.copies.push(copy)?;
-    Ok(Tables {
-        theory,
-        sorts,
-        symbols,
-        variables,
-        called,
-        copies,
-    })
+    tables.theory.reps.push(sort_rep(rep))?;
+    add_copy(alloc, tables, copy)?;
+    add_named_sort(alloc, tables, name)
 }
 
 fn sort_numbers(alloc: Global, tables: &Tables, names: &[Name]) -> Result<Items<SortId>, NoMemory>
@@ -164,30 +192,18 @@ fn sort_numbers(alloc: Global, tables: &Tables, names: &[Name]) -> Result<Items<
     Ok(made)
 }
 
-// A symbol with a new name more.
-#[tactic(auto, using(crate::proofs::AddSteps::symbol_steps))]
-fn with_symbol(alloc: Global, tables: Tables, symbol: Symbol) -> Result<Tables, NoMemory>
-    requires { position_of symbol.name (symbol_names (contents tables.theory)) ≡ None }
-    ensures { IfOk result (λ next. contents next.theory ≡ with_symbol (contents tables.theory) (profile symbol)) }
+// A symbol more.
+fn add_symbol(alloc: Global, tables: &mut Tables, symbol: Symbol) -> Result<(), NoMemory>
+    ensures { OnOk result (contents tables.new.theory ≡ with_symbol (contents tables.old.theory) (profile symbol)) }
 {
-    let Tables {
-        mut theory,
-        sorts,
-        symbols,
-        variables,
-        called,
-        copies,
-    } = tables;
-    let symbols = symbols.with(alloc, &symbol.name)?;
-    theory.sig.symbols.push(symbol)?;
-    Ok(Tables {
-        theory,
-        sorts,
-        symbols,
-        variables,
-        called,
-        copies,
-    })
+    let name = Name::new(alloc, symbol.name.as_str())?;
+    push_named(
+        alloc,
+        &mut tables.symbols,
+        &mut tables.theory.sig.symbols,
+        &name,
+        symbol,
+    )
 }
 
 // The number that the next symbol gets.
@@ -201,54 +217,65 @@ fn next_symbol(tables: &Tables) -> Result<SymId, NoMemory>
 }
 
 #[tactic(auto, unfolding(crate::specs::Contents::with_decl))]
-fn with_function(
+fn add_function(
     alloc: Global,
-    tables: Tables,
+    tables: &mut Tables,
     name: Name,
     args: &[Name],
     sort: &Name,
-) -> Result<Tables, NoMemory>
-    requires { position_of name (symbol_names (contents tables.theory)) ≡ None }
-    ensures { IfOk result (λ next. contents next.theory ≡ with_decl (contents tables.theory) (Declaration.Function name args.now sort.now)) }
+) -> Result<(), NoMemory>
+    ensures { OnOk result (contents tables.new.theory ≡ with_decl (contents tables.old.theory) (Declaration.Function name args.now sort.now)) }
 {
-    let args = sort_numbers(alloc, &tables, args)?;
-    let result = Some(tables.sort_number(sort));
-    let kind = SymKind::Function;
-    with_symbol(
-        alloc,
-        tables,
-        Symbol {
-            name,
-            args,
-            result,
-            kind,
-        },
-    )
+    let symbol = Symbol {
+        name,
+        args: sort_numbers(alloc, tables, args)?,
+        result: Some(tables.sort_number(sort)),
+        kind: SymKind::Function,
+    };
+    add_symbol(alloc, tables, symbol)
 }
 
 #[tactic(auto, unfolding(crate::specs::Contents::with_decl))]
-fn with_relation(
+fn add_relation(
     alloc: Global,
-    tables: Tables,
+    tables: &mut Tables,
     name: Name,
     args: &[Name],
-) -> Result<Tables, NoMemory>
-    requires { position_of name (symbol_names (contents tables.theory)) ≡ None }
-    ensures { IfOk result (λ next. contents next.theory ≡ with_decl (contents tables.theory) (Declaration.Relation name args.now)) }
+) -> Result<(), NoMemory>
+    ensures { OnOk result (contents tables.new.theory ≡ with_decl (contents tables.old.theory) (Declaration.Relation name args.now)) }
 {
-    let args = sort_numbers(alloc, &tables, args)?;
-    let result = None;
-    let kind = SymKind::Relation;
-    with_symbol(
-        alloc,
-        tables,
-        Symbol {
-            name,
-            args,
-            result,
-            kind,
-        },
-    )
+    let symbol = Symbol {
+        name,
+        args: sort_numbers(alloc, tables, args)?,
+        result: None,
+        kind: SymKind::Relation,
+    };
+    add_symbol(alloc, tables, symbol)
+}
+
+#[tactic(auto, unfolding(crate::specs::Contents::with_decl))]
+fn add_literal(
+    alloc: Global,
+    tables: &mut Tables,
+    name: Name,
+    sort: &Name,
+    value: LitValue,
+) -> Result<(), NoMemory>
+    ensures { OnOk result (contents tables.new.theory ≡ with_decl (contents tables.old.theory) (Declaration.Literal name sort.now value)) }
+{
+    let number = next_symbol(tables)?;
+    let symbol = Symbol {
+        name,
+        args: Items::new(alloc),
+        result: Some(tables.sort_number(sort)),
+        kind: SymKind::Literal,
+    };
+    add_symbol(alloc, tables, symbol)?;
+    tables.theory.literals.push(LiteralDecl {
+        symbol: number,
+        value,
+    })?;
+    Ok(())
 }
 
 // As many numbers as there are outputs, from that of the next symbol.
@@ -270,38 +297,110 @@ fn output_numbers(
     Ok(made)
 }
 
-fn with_output(
+fn add_output(
     alloc: Global,
-    tables: Tables,
+    tables: &mut Tables,
     inputs: &[Name],
     output: &Typed,
-) -> Result<Tables, NoMemory>
-    requires { position_of output.now.name (symbol_names (contents tables.theory)) ≡ None }
-    ensures { IfOk result (λ next. contents next.theory ≡ with_symbol (contents tables.theory) (output_profile (contents tables.theory) inputs.now output.now)) }
+) -> Result<(), NoMemory>
+    ensures { OnOk result (contents tables.new.theory ≡ with_symbol (contents tables.old.theory) (output_profile (contents tables.old.theory) inputs.now output.now)) }
 {
-    let made = Symbol {
+    let symbol = Symbol {
         name: Name::new(alloc, output.name.as_str())?,
-        args: sort_numbers(alloc, &tables, inputs)?,
+        args: sort_numbers(alloc, tables, inputs)?,
         result: Some(tables.sort_number(&output.sort)),
         kind: SymKind::Output,
     };
-    with_symbol(alloc, tables, made)
+    add_symbol(alloc, tables, symbol)
 }
 
-fn with_outputs(
+fn add_outputs(
     alloc: Global,
-    tables: Tables,
+    tables: &mut Tables,
     inputs: &[Name],
     outputs: &[Typed],
-) -> Result<Tables, NoMemory>
-    requires { are_new (symbol_names (contents tables.theory)) outputs.now ≡ true }
-    ensures { IfOk result (λ next. contents next.theory ≡ with_outputs (contents tables.theory) inputs.now outputs.now) }
+) -> Result<(), NoMemory>
+    ensures { OnOk result (contents tables.new.theory ≡ with_outputs (contents tables.old.theory) inputs.now outputs.now) }
 {
-    let mut tables = tables;
-    for output in outputs {
-        tables = with_output(alloc, tables, inputs, output)?;
+    let mut rest = outputs;
+    while let [output, behind @ ..] = rest {
+        add_output(alloc, tables, inputs, output)?;
+        rest = behind;
     }
-    Ok(tables)
+    Ok(())
+}
+
+fn call_routine(alloc: Global, tables: &mut Tables, routine: Routine) -> Result<(), NoMemory>
+    ensures { OnOk result (contents tables.new.theory ≡ with_called (contents tables.old.theory) routine) }
+{
+    let name = Name::new(alloc, routine.name.as_str())?;
+    push_named(
+        alloc,
+        &mut tables.routines,
+        &mut tables.theory.routines,
+        &name,
+        routine,
+    )
+}
+
+fn add_routine(
+    alloc: Global,
+    tables: &mut Tables,
+    name: Name,
+    inputs: &[Name],
+    outputs: &[Typed],
+) -> Result<(), NoMemory>
+    ensures { OnOk result (contents tables.new.theory ≡ with_decl (contents tables.old.theory) (Declaration.Routine name inputs.now outputs.now)) }
+{
+    let routine = Routine {
+        name,
+        inputs: sort_numbers(alloc, tables, inputs)?,
+        outputs: output_numbers(alloc, tables, outputs)?,
+    };
+    add_outputs(alloc, tables, inputs, outputs)?;
+    call_routine(alloc, tables, routine)
+}
+
+fn list_function(
+    alloc: Global,
+    tables: &mut Tables,
+    function: FortranFunction,
+) -> Result<(), NoMemory>
+    ensures { OnOk result (contents tables.new.theory ≡ with_listed (contents tables.old.theory) function) }
+{
+    let name = Name::new(alloc, function.name.as_str())?;
+    push_named(
+        alloc,
+        &mut tables.functions,
+        &mut tables.theory.functions,
+        &name,
+        function,
+    )
+}
+
+#[tactic(auto, unfolding(crate::specs::Contents::with_decl))]
+fn add_value(
+    alloc: Global,
+    tables: &mut Tables,
+    function: Name,
+    name: Name,
+    args: &[Name],
+    sort: &Name,
+) -> Result<(), NoMemory>
+    ensures { OnOk result (contents tables.new.theory ≡ with_decl (contents tables.old.theory) (Declaration.Value function name args.now sort.now)) }
+{
+    let listed = FortranFunction {
+        name: function,
+        symbol: next_symbol(tables)?,
+    };
+    let symbol = Symbol {
+        name,
+        args: sort_numbers(alloc, tables, args)?,
+        result: Some(tables.sort_number(sort)),
+        kind: SymKind::Value,
+    };
+    add_symbol(alloc, tables, symbol)?;
+    list_function(alloc, tables, listed)
 }
 
 fn typed_numbers(
@@ -319,6 +418,7 @@ fn typed_numbers(
     Ok(made)
 }
 
+// The names of these variables in the table too.
 fn with_variables(
     alloc: Global,
     variables: NameTable,
@@ -333,198 +433,58 @@ fn with_variables(
     Ok(variables)
 }
 
-fn push_literal(tables: Tables, literal: LiteralDecl) -> Result<Tables, NoMemory>
-    ensures { IfOk result (λ next. contents next.theory ≡ with_literal (contents tables.theory) literal) }
-{
-    let Tables {
-        mut theory,
-        sorts,
-        symbols,
-        variables,
-        called,
-        copies,
-    } = tables;
-    theory.literals.push(literal)?;
-    Ok(Tables {
-        theory,
-        sorts,
-        symbols,
-        variables,
-        called,
-        copies,
-    })
-}
-
-fn push_function(
-    alloc: Global,
-    tables: Tables,
-    function: FortranFunction,
-) -> Result<Tables, NoMemory>
-    ensures { IfOk result (λ next. contents next.theory ≡ with_listed (contents tables.theory) function) }
-{
-    let Tables {
-        mut theory,
-        sorts,
-        symbols,
-        variables,
-        called,
-        copies,
-    } = tables;
-    let called = called.including(alloc, &function.name)?;
-    theory.functions.push(function)?;
-    Ok(Tables {
-        theory,
-        sorts,
-        symbols,
-        variables,
-        called,
-        copies,
-    })
-}
-
-fn push_routine(alloc: Global, tables: Tables, routine: Routine) -> Result<Tables, NoMemory>
-    ensures { IfOk result (λ next. contents next.theory ≡ with_called (contents tables.theory) routine) }
-{
-    let Tables {
-        mut theory,
-        sorts,
-        symbols,
-        variables,
-        called,
-        copies,
-    } = tables;
-    let called = called.including(alloc, &routine.name)?;
-    theory.routines.push(routine)?;
-    Ok(Tables {
-        theory,
-        sorts,
-        symbols,
-        variables,
-        called,
-        copies,
-    })
-}
-
+// An axiom behind the others, and the names of its variables. Without memory neither axioms nor names are left.
 fn push_axiom(
     alloc: Global,
-    tables: Tables,
+    names: &mut NameTable,
+    axioms: &mut Items<Axiom>,
     typed: &[Typed],
     added: Axiom,
-) -> Result<Tables, NoMemory>
+) -> Result<(), NoMemory>
+    ensures named { OnOk result ((q : List ℕ) → is_among q names.new.names ≡ (is_among q (names_in typed.now) || is_among q names.old.names)) }
+    ensures listed { OnOk result (axioms.new ≡ axioms.old ++ added ∷ []) }
+    ensures nameless { OnErr result (names.new.names ≡ []) }
+    ensures empty { OnErr result (axioms.new ≡ []) }
+{
+    let table = mem::replace(names, NameTable::new(alloc));
+    let mut list = mem::replace(axioms, Items::new(alloc));
+    let table = with_variables(alloc, table, typed)?;
+    list.push(added)?;
+    *names = table;
+    *axioms = list;
+    Ok(())
+}
+
+fn add_law(
+    alloc: Global,
+    tables: &mut Tables,
+    typed: &[Typed],
+    added: Axiom,
+) -> Result<(), NoMemory>
     requires { axiom_names added ≡ names_in typed.now }
-    ensures { IfOk result (λ next. contents next.theory ≡ with_law (contents tables.theory) added) }
+    ensures { OnOk result (contents tables.new.theory ≡ with_law (contents tables.old.theory) added) }
 {
-    let Tables {
-        mut theory,
-        sorts,
-        symbols,
-        variables,
-        called,
-        copies,
-    } = tables;
-    let variables = with_variables(alloc, variables, typed)?;
-    theory.axioms.push(added)?;
-    Ok(Tables {
-        theory,
-        sorts,
-        symbols,
-        variables,
-        called,
-        copies,
-    })
-}
-
-#[tactic(auto, unfolding(crate::specs::Contents::with_decl))]
-fn with_literal(
-    alloc: Global,
-    tables: Tables,
-    name: Name,
-    sort: &Name,
-    value: LitValue,
-) -> Result<Tables, NoMemory>
-    requires { position_of name (symbol_names (contents tables.theory)) ≡ None }
-    ensures { IfOk result (λ next. contents next.theory ≡ with_decl (contents tables.theory) (Declaration.Literal name sort.now value)) }
-{
-    let symbol = next_symbol(&tables)?;
-    let args = Items::new(alloc);
-    let result = Some(tables.sort_number(sort));
-    let kind = SymKind::Literal;
-    let tables = with_symbol(
+    push_axiom(
         alloc,
-        tables,
-        Symbol {
-            name,
-            args,
-            result,
-            kind,
-        },
-    )?;
-    push_literal(tables, LiteralDecl { symbol, value })
+        &mut tables.variables,
+        &mut tables.theory.axioms,
+        typed,
+        added,
+    )
 }
 
 #[tactic(auto, unfolding(crate::specs::Contents::with_decl))]
-fn with_value(
+fn add_axiom(
     alloc: Global,
-    tables: Tables,
-    function: Name,
-    name: Name,
-    args: &[Name],
-    sort: &Name,
-) -> Result<Tables, NoMemory>
-    requires { position_of name (symbol_names (contents tables.theory)) ≡ None }
-    ensures { IfOk result (λ next. contents next.theory ≡ with_decl (contents tables.theory) (Declaration.Value function name args.now sort.now)) }
-{
-    let symbol = next_symbol(&tables)?;
-    let args = sort_numbers(alloc, &tables, args)?;
-    let result = Some(tables.sort_number(sort));
-    let kind = SymKind::Value;
-    let tables = with_symbol(
-        alloc,
-        tables,
-        Symbol {
-            name,
-            args,
-            result,
-            kind,
-        },
-    )?;
-    let name = function;
-    push_function(alloc, tables, FortranFunction { name, symbol })
-}
-
-fn with_routine(
-    alloc: Global,
-    tables: Tables,
-    name: Name,
-    inputs: &[Name],
-    outputs: &[Typed],
-) -> Result<Tables, NoMemory>
-    requires { are_new (symbol_names (contents tables.theory)) outputs.now ≡ true }
-    ensures { IfOk result (λ next. contents next.theory ≡ with_decl (contents tables.theory) (Declaration.Routine name inputs.now outputs.now)) }
-{
-    let output_ids = output_numbers(alloc, &tables, outputs)?;
-    let input_ids = sort_numbers(alloc, &tables, inputs)?;
-    let tables = with_outputs(alloc, tables, inputs, outputs)?;
-    let routine = Routine {
-        name,
-        inputs: input_ids,
-        outputs: output_ids,
-    };
-    push_routine(alloc, tables, routine)
-}
-
-#[tactic(auto, unfolding(crate::specs::Contents::with_decl))]
-fn with_axiom(
-    alloc: Global,
-    tables: Tables,
+    tables: &mut Tables,
     typed: &[Typed],
     formula: &WrittenFormula,
-) -> Result<Tables, NoMemory>
-    ensures { IfOk result (λ next. contents next.theory ≡ with_decl (contents tables.theory) (Declaration.Axiom typed.now formula.now)) }
+) -> Result<(), NoMemory>
+    ensures { OnOk result (contents tables.new.theory ≡ with_decl (contents tables.old.theory) (Declaration.Axiom typed.now formula.now)) }
 {
-    let formula = axiom_meaning(alloc, &tables, typed, formula)?;
-    let vars = typed_numbers(alloc, &tables, typed)?;
-    push_axiom(alloc, tables, typed, Axiom { vars, formula })
+    let vars = typed_numbers(alloc, tables, typed)?;
+    let formula = axiom_meaning(alloc, tables, typed, formula)?;
+    add_law(alloc, tables, typed, Axiom { vars, formula })
 }
 
 // The formula that the written one stands for, where these are its variables.

@@ -3,9 +3,9 @@ ghost use Rattle.am_text.specs.Scan.{read};
 ghost use Rattle.am_theory.specs.Contents.{contents, nothing};
 ghost use Rattle.am_theory.specs.Limits.{file_limit, depth_limit};
 ghost use Rattle.am_theory.specs.Reading.{Gives, IsAnswer, declared, read_from, forms_theory, theory};
-ghost use Rattle.am_theory.specs.Tabled.{tabled, text_error};
+ghost use Rattle.am_theory.specs.TextErrors.{text_error};
 
-use crate::adding::with_decl;
+use crate::adding::add_declaration;
 use crate::fault::{ReadError, TheoryFault, TheoryKind};
 use crate::kinds::first_kind;
 use crate::shapes::{decl_of, version_of};
@@ -20,42 +20,48 @@ const FILE_LIMIT: u32 = 1048576;
 /// How many lists may be open in it at once.
 const DEPTH_LIMIT: u32 = 64;
 
-// One declaration more, or its first fault.
+// Adds the declaration that a form is, or answers its first fault.
 #[tactic(auto, unfolding(crate::specs::Reading::declared))]
-fn declared(alloc: Global, tables: Tables, form: &Form) -> Result<Tables, ReadError>
-    ensures { Gives tabled result (declared (contents tables.theory) form.now) }
+fn declare(alloc: Global, tables: &mut Tables, form: &Form) -> Result<(), ReadError>
+    ensures { Gives (λ _. contents tables.new.theory) result (declared (contents tables.old.theory) form.now) }
 {
     let Some(declaration) = decl_of(alloc, form)? else {
         return Err(ReadError::at(form.place, TheoryKind::BadHead));
     };
-    if let Some(kind) = first_kind(alloc, &tables, &declaration)? {
+    if let Some(kind) = first_kind(alloc, tables, &declaration)? {
         return Err(ReadError::at(form.place, kind));
     }
-    Ok(with_decl(alloc, tables, declaration)?)
+    add_declaration(alloc, tables, declaration)?;
+    Ok(())
 }
 
-// The declarations in order, or the first fault.
+// Adds the declarations that the forms are, in order, or answers the first fault.
 #[tactic(auto, using(crate::proofs::ReadSteps::read_steps))]
-fn read_from(alloc: Global, forms: &[Form]) -> Result<Tables, ReadError>
-    ensures { Gives tabled result (read_from nothing forms.now) }
+fn read_from(alloc: Global, tables: &mut Tables, forms: &[Form]) -> Result<(), ReadError>
+    ensures { Gives (λ _. contents tables.new.theory) result (read_from (contents tables.old.theory) forms.now) }
 {
-    let mut tables = Tables::new(alloc);
     for form in forms {
-        tables = declared(alloc, tables, form)?;
+        declare(alloc, tables, form)?;
     }
-    Ok(tables)
+    Ok(())
 }
 
 // What the forms of a file of this many bytes declare, or the first fault.
 #[tactic(auto, unfolding(crate::specs::Reading::forms_theory))]
-fn forms_theory(alloc: Global, size: u32, forms: &[Form]) -> Result<Tables, ReadError>
-    ensures { Gives tabled result (forms_theory size forms.now) }
+fn forms_theory(
+    alloc: Global,
+    tables: &mut Tables,
+    size: u32,
+    forms: &[Form],
+) -> Result<(), ReadError>
+    requires { contents tables.now.theory ≡ nothing }
+    ensures { Gives (λ _. contents tables.new.theory) result (forms_theory size forms.now) }
 {
     match forms {
         [] => Err(ReadError::at(size, TheoryKind::BadHead)),
         [head, rest @ ..] => match version_of(head) {
             None => Err(ReadError::at(head.place, TheoryKind::BadHead)),
-            Some(1) => read_from(alloc, rest),
+            Some(1) => read_from(alloc, tables, rest),
             Some(_) => Err(ReadError::at(head.place, TheoryKind::Version)),
         },
     }
@@ -67,8 +73,9 @@ fn forms_theory(alloc: Global, size: u32, forms: &[Form]) -> Result<Tables, Read
 pub fn read_theory(alloc: Global, bytes: &[u8]) -> Result<Theory, TheoryFault>
     ensures exact { IsAnswer result (theory bytes.now) }
 {
-    match file_theory(alloc, bytes) {
-        Ok(tables) => Ok(tables.theory),
+    let mut tables = Tables::new(alloc);
+    match read_file(alloc, &mut tables, bytes) {
+        Ok(()) => Ok(tables.theory),
         Err(ReadError::Memory) => Err(TheoryFault {
             place: 0,
             kind: TheoryKind::NoMemory,
@@ -77,26 +84,34 @@ pub fn read_theory(alloc: Global, bytes: &[u8]) -> Result<Theory, TheoryFault>
     }
 }
 
-fn file_theory(alloc: Global, bytes: &[u8]) -> Result<Tables, ReadError>
-    ensures { Gives tabled result (theory bytes.now) }
+// What a file declares, or the first fault.
+fn read_file(alloc: Global, tables: &mut Tables, bytes: &[u8]) -> Result<(), ReadError>
+    requires { contents tables.now.theory ≡ nothing }
+    ensures { Gives (λ _. contents tables.new.theory) result (theory bytes.now) }
 {
     let limits = TextLimits {
         bytes: FILE_LIMIT,
         depth: DEPTH_LIMIT,
     };
     match read_forms(alloc, bytes, limits) {
-        Ok(forms) => formed_theory(alloc, bytes, forms.as_slice()),
+        Ok(forms) => formed_theory(alloc, tables, bytes, forms.as_slice()),
         Err(fault) => Err(text_error(fault)),
     }
 }
 
 // What a file declares whose forms these are, or the first fault.
-fn formed_theory(alloc: Global, bytes: &[u8], forms: &[Form]) -> Result<Tables, ReadError>
+fn formed_theory(
+    alloc: Global,
+    tables: &mut Tables,
+    bytes: &[u8],
+    forms: &[Form],
+) -> Result<(), ReadError>
     requires formed { read file_limit depth_limit bytes.now ≡ Ok forms.now }
     requires few { length bytes.now ≤ file_limit }
-    ensures { Gives tabled result (theory bytes.now) }
+    requires empty { contents tables.now.theory ≡ nothing }
+    ensures { Gives (λ _. contents tables.new.theory) result (theory bytes.now) }
 {
-    forms_theory(alloc, bytes.len() as u32, forms)
+    forms_theory(alloc, tables, bytes.len() as u32, forms)
 }
 
 // The fault that a fault of the text is.

@@ -1,5 +1,7 @@
-ghost use Rattle.std.specs.Prelude.{◌≡◌, List, ℕ};
+ghost use Rattle.std.specs.Prelude.{◌≡◌, List, ℕ, map};
 ghost use Rattle.am_term.specs.NameLists.{is_among};
+ghost use Rattle.am_theory.specs.declared.theory.FortranFunction.{FortranFunction};
+ghost use Rattle.am_theory.specs.declared.theory.Routine.{Routine};
 ghost use Rattle.am_theory.specs.Contents.{contents, nothing, sort_number, symbol_names};
 ghost use Rattle.am_theory.specs.Faults.{variable_names, called_names, copy_names, is_unknown_sort, is_symbol_name, is_taken, is_called, rep_named};
 
@@ -10,20 +12,22 @@ use sqlite_items::Items;
 use std::alloc::Global;
 
 /// What was declared so far, with its names in maps: the sorts and the symbols by their numbers, the
-/// variables of the axioms, the names of routines and listed functions, and those of copy routines.
+/// variables of the axioms, the routines, the listed functions and the copy routines.
 #[derive(Drop)]
 pub struct Tables {
     pub theory: Theory,
     pub sorts: NameTable,
     pub symbols: NameTable,
     pub variables: NameTable,
-    pub called: NameTable,
+    pub routines: NameTable,
+    pub functions: NameTable,
     pub copies: NameTable,
     ghost sorts_agree: { sorts.names ≡ (contents theory).sorts },
     ghost symbols_agree: { symbols.names ≡ symbol_names (contents theory) },
     ghost variables_agree: { (q : List ℕ) → is_among q variables.names ≡ is_among q (variable_names (contents theory)) },
-    ghost called_agree: { (q : List ℕ) → is_among q called.names ≡ is_among q (called_names (contents theory)) },
-    ghost copies_agree: { (q : List ℕ) → is_among q copies.names ≡ is_among q (copy_names (contents theory)) },
+    ghost routines_agree: { routines.names ≡ map (λ (r : Routine). r.name) theory.routines },
+    ghost functions_agree: { functions.names ≡ map (λ (f : FortranFunction). f.name) theory.functions },
+    ghost copies_agree: { copies.names ≡ copy_names (contents theory) },
 }
 
 impl Tables {
@@ -50,7 +54,8 @@ impl Tables {
             sorts: NameTable::new(alloc),
             symbols: NameTable::new(alloc),
             variables: NameTable::new(alloc),
-            called: NameTable::new(alloc),
+            routines: NameTable::new(alloc),
+            functions: NameTable::new(alloc),
             copies: NameTable::new(alloc),
         }
     }
@@ -98,10 +103,11 @@ impl Tables {
     }
 
     /// Whether the name is that of a routine or of a listed function.
+    #[tactic(auto, using(crate::proofs::AddSteps::call_steps))]
     pub fn is_call(&self, name: &Name) -> bool
         ensures { result ≡ is_among name.now (called_names (contents self.now.theory)) }
     {
-        self.called.contains(name)
+        self.routines.contains(name) || self.functions.contains(name)
     }
 
     /// Whether the name is that of a routine, of a listed function or of a copy routine.
