@@ -5,6 +5,8 @@ pub mod Lesser
 pub mod Listed
 pub mod Neighbours
 pub mod Ordering
+pub mod Rewriting
 pub mod Runs
 pub mod Stepping
 pub mod Subsumed
+pub mod Unmatched

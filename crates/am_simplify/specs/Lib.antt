@@ -1,8 +1,10 @@
+pub mod Agreement
 pub mod Frames
 pub mod NormalStep
 pub mod Numbering
 pub mod Places
 pub mod Reasons
+pub mod Standing
 pub mod Steps
 pub mod Subsuming
 pub mod Subsumption

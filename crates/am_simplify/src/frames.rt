@@ -21,3 +21,10 @@ pub enum Todo<'a> {
         behind: &'a Todo<'a>,
     },
 }
+
+/// Where a part stands: the number of each argument on the way to it, the last one first.
+#[derive(Drop)]
+pub enum Path<'a> {
+    Root,
+    Below { k: u32, above: &'a Path<'a> },
+}

@@ -4,6 +4,7 @@
 //! towards a clause's normal form, `Places` the parts of literals in preorder. The crate rests on `am_rules`.
 #![tactic(auto)]
 
+mod agreeing;
 mod dropping;
 mod frames;
 mod laws;

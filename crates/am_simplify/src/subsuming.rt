@@ -1,6 +1,4 @@
 ghost use Rattle.std.specs.Prelude.{◌≡◌, ◌↔◌, IsTrue};
-ghost use Rattle.am_term.specs.Same.{is_in};
-ghost use Rattle.am_term.specs.declared.term.Term.TheViews.{out-Term};
 ghost use Rattle.am_clause.specs.Numbered.{IsNumbered};
 ghost use Rattle.am_clause.specs.SortedClause.{is_sorted_clause};
 ghost use Rattle.am_unify.specs.Matching.{held as is_held};
@@ -8,6 +6,7 @@ ghost use Rattle.am_simplify.specs.Frames.{bindings, tasks};
 ghost use Rattle.am_simplify.specs.Subsuming.{after_tasks, covers, match_literal, match_terms, meets, subsumed_by};
 ghost use Rattle.am_simplify.specs.Subsumption.{Subsumes};
 
+use crate::agreeing::is_input;
 use crate::frames::{Bound, Todo};
 use am_clause::Clause;
 use am_term::{Atom, Ctx, Literal, Term, fits, same, well_sorted};
@@ -222,16 +221,5 @@ fn held(bound: &Bound, n: u32, term: &Term) -> Option<bool>
             }
             held(before, n, term)
         }
-    }
-}
-
-#[tactic(auto, using(crate::proofs::Runs::inputs))]
-fn is_input(term: &Term, k: u32) -> bool
-    ensures { result ≡ is_in k (out-Term term.now) }
-{
-    match term {
-        Term::Var { .. } => false,
-        Term::In { k: j } => k == *j,
-        Term::App { .. } => false,
     }
 }
