@@ -9,13 +9,16 @@ use Rattle.am_agenda.specs.declared.wait_row.WaitRow.{WaitRow}
 use Rattle.am_clause.specs.Size.{clause_weight}
 use Rattle.am_search.specs.Marks.{was_kept, was_chosen}
 use Rattle.am_search.specs.Members.{Member, shown, is_waiting, numbered_rows, waiting}
-use Rattle.am_search.specs.Weights.{row_weight, weighed_from}
+use Rattle.am_search.specs.Weights.{row_features, row_weight, weighed_from}
 use Rattle.am_search.specs.declared.fate.Prepared.{Prepared}
 
 pub one_more : (rows all : List Row) (row : Row) (weights both : List ℕ) → weights ≡ map row_weight rows → all ≡ rows ++ row ∷ [] → both ≡ weights ++ row_weight row ∷ [] → both ≡ map row_weight all
 one_more rows all row weights both are is more = more ∙ ap (λ ws. ws ++ row_weight row ∷ []) are ∙ sym (ap (map row_weight) is ∙ map-append row_weight rows (row ∷ []))
 
-pub ruleset weighing = (common_steps, one_more)
+pub one_featured : (rows all : List Row) (row : Row) (features both : List ℕ) → features ≡ map row_features rows → all ≡ rows ++ row ∷ [] → both ≡ features ++ row_features row ∷ [] → both ≡ map row_features all
+one_featured rows all row features both are is more = more ∙ ap (λ fs. fs ++ row_features row ∷ []) are ∙ sym (ap (map row_features) is ∙ map-append row_features rows (row ∷ []))
+
+pub ruleset weighing = (common_steps, one_more, one_featured)
 
 -- a weight that is told in full up to the cap, is so up to a limit below it
 within_limit : (w most : ℕ) → most ≤ 1000000 → min (min w 1000001) (most + 1) ≡ min w (most + 1)

@@ -107,8 +107,7 @@ fn reason_of(
     if let Some(reason) = own {
         return Ok(Some(reason));
     }
-    let rows = state.rows.as_slice();
-    match first_subsumer(setting, rows, &state.fates, &row.clause)? {
+    match first_subsumer(setting, &state.rows, &state.fates, &row.clause)? {
         Some(number) => Ok(Some(Reason::Subsumed(number))),
         None => Ok(None),
     }

@@ -1,17 +1,19 @@
 ghost use Rattle.std.specs.Prelude.{◌≡◌, [], OnOk, IfOk, ◌++◌, ◌∷◌, ◌<◌, length, map, MatchOption, slice_get, option_map};
 ghost use Rattle.std.specs.Option.{option_copied};
-ghost use Rattle.am_search.specs.Weights.{cap, row_weight};
+ghost use Rattle.am_search.specs.Weights.{cap, row_features, row_weight};
 
 use am_clause::{Row, weight_of};
+use am_simplify::features;
 use am_term::NoMemory;
 use std::alloc::Global;
 use std::marker::Model;
 
-/// Rows, which contracts see as their list, with the weight of each one's clause.
+/// Rows, which contracts see as their list, with the weight and the features of each one's clause.
 #[derive(Drop)]
 pub struct WeighedRows {
     rows: Vec<Row>,
     weights: Vec<u32>,
+    features: Vec<u64>,
 }
 
 impl Model for WeighedRows {
@@ -19,7 +21,7 @@ impl Model for WeighedRows {
     ghost use Rattle.std.specs.Coded.{codes};
     ghost use Rattle.am_clause.specs.contracts.row.Row as rowed;
     ghost use Rattle.am_clause.specs.declared.row.Row.{Row};
-    ghost use Rattle.am_search.specs.Weights.{row_weight};
+    ghost use Rattle.am_search.specs.Weights.{row_features, row_weight};
 
     ghost Value = { List Row };
 
@@ -27,16 +29,21 @@ impl Model for WeighedRows {
 
     ghost view = { λ s. s.rows.items };
 
-    ghost invariant = { λ s. s.weights.items ≡ map row_weight s.rows.items };
+    ghost invariant = { λ s. (s.weights.items ≡ map row_weight s.rows.items) × (s.features.items ≡ map row_features s.rows.items) };
 }
 
 impl WeighedRows {
-    /// The rows, each weighed once.
+    /// The rows, each weighed and looked over once.
     pub fn new(alloc: Global, rows: Vec<Row>) -> Result<WeighedRows, NoMemory>
         ensures { IfOk result (λ s. s ≡ rows.items) }
     {
         let weights = weights(alloc, rows.as_slice())?;
-        Ok(WeighedRows { rows, weights })
+        let features = all_features(alloc, rows.as_slice())?;
+        Ok(WeighedRows {
+            rows,
+            weights,
+            features,
+        })
     }
 
     /// One row more, behind the others.
@@ -45,9 +52,15 @@ impl WeighedRows {
         ensures { OnOk result (self.new ≡ self.old ++ row ∷ []) }
     {
         let weight = weight(&row);
+        let features = features(&row.clause);
         self.weights.push(weight)?;
+        if self.features.push(features).is_err() {
+            self.weights.pop();
+            return Err(NoMemory);
+        }
         if self.rows.push(row).is_err() {
             self.weights.pop();
+            self.features.pop();
             return Err(NoMemory);
         }
         Ok(())
@@ -74,11 +87,22 @@ impl WeighedRows {
         self.weights.as_slice()
     }
 
+    /// The features of the rows, in the same order.
+    pub fn features(&self) -> &[u64]
+        ensures { result.now ≡ map row_features self.now }
+    {
+        self.features.as_slice()
+    }
+
     /// The rows.
     pub fn into_rows(self) -> Vec<Row>
         ensures { result.items ≡ self }
     {
-        let WeighedRows { rows, weights: _ } = self;
+        let WeighedRows {
+            rows,
+            weights: _,
+            features: _,
+        } = self;
         rows
     }
 }
@@ -96,6 +120,18 @@ fn weights(alloc: Global, rows: &[Row]) -> Result<Vec<u32>, NoMemory>
     let mut rest = rows;
     while let [row, behind @ ..] = rest {
         found.push(weight(row))?;
+        rest = behind;
+    }
+    Ok(found)
+}
+
+fn all_features(alloc: Global, rows: &[Row]) -> Result<Vec<u64>, NoMemory>
+    ensures { IfOk result (λ fs. fs.items ≡ map row_features rows.now) }
+{
+    let mut found = Vec::new(alloc);
+    let mut rest = rows;
+    while let [row, behind @ ..] = rest {
+        found.push(features(&row.clause))?;
         rest = behind;
     }
     Ok(found)

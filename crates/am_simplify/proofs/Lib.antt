@@ -1,5 +1,6 @@
 pub mod Abstracts
 pub mod Claims
+pub mod Featuring
 pub mod Inserted
 pub mod Lesser
 pub mod Listed

@@ -1,5 +1,5 @@
 -- Walking over a literal: what stands where, and the first rewriting of what is left.
-use Rattle.std.proofs.Common.{◌≡◌, ◌∙◌, ◌++◌, ◌+◌, ℕ, zero, suc, refl, sym, ap, subst, arith, Option, Some, None, List, [], ◌∷◌, option_and_then, slice_get}
+use Rattle.std.proofs.Common.{◌≡◌, ◌∙◌, ◌++◌, ◌+◌, ℕ, suc, refl, sym, ap, subst, arith, Option, Some, None, List, [], ◌∷◌, option_and_then, slice_get}
 use Rattle.std.proofs.lemmas.Grind.{common_steps}
 use Rattle.am_term.specs.Parts.{parts_of}
 use Rattle.am_term.specs.Place.{args_of, args_of-App, member, place}

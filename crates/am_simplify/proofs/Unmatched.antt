@@ -4,7 +4,6 @@ use Rattle.std.proofs.lemmas.Bool.Decides.{nat_tests}
 use Rattle.std.proofs.lemmas.Grind.{common_steps}
 use Rattle.am_term.specs.Induct.{term_induct}
 use Rattle.am_term.specs.Place.{member}
-use Rattle.am_term.specs.Same.{is_in}
 use Rattle.am_term.specs.Weight.{nodes_laws}
 use Rattle.am_term.specs.declared.id.SortId.{SortId}
 use Rattle.am_term.specs.declared.id.SymId.{SymId}
@@ -16,7 +15,6 @@ use Rattle.am_term.specs.declared.term.Term.TheViews.{out-Term, the_lemmas}
 use Rattle.am_term.proofs.Instances.{nodes-positive}
 use Rattle.am_clause.specs.Rules.{part_at, rewrite, side_at}
 use Rattle.am_clause.specs.declared.clause.Clause.{Clause}
-use Rattle.am_clause.specs.declared.row.Made.{Made}
 use Rattle.am_unify.specs.Matching.{and_then, match_all, match_app, matched, matched-In, matched-App}
 use Rattle.am_rules.specs.Conclusions.{rewritten-is, rewriting_by}
 use Rattle.am_rules.specs.Paramodulation.{sorted_only}

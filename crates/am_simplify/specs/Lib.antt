@@ -1,4 +1,5 @@
 pub mod Agreement
+pub mod Features
 pub mod Frames
 pub mod NormalStep
 pub mod Numbering

@@ -6,6 +6,7 @@
 
 mod agreeing;
 mod dropping;
+mod feature_bits;
 mod frames;
 mod laws;
 mod matcher;
@@ -18,6 +19,7 @@ mod step;
 mod subsuming;
 
 pub use dropping::{drop_reason, own_reason, too_big};
+pub use feature_bits::features;
 pub use laws::{
     law_of_lesser_variables, law_of_normal_steps, law_of_places, law_of_subsumption, law_of_units,
 };
@@ -26,4 +28,4 @@ pub use placing::places;
 pub use reason::Reason;
 pub use rewriter::Rewriter;
 pub use step::{RewriteMade, StepRule, Unit};
-pub use subsuming::subsumes;
+pub use subsuming::{subsumes, subsumes_featured};

@@ -2,11 +2,13 @@ ghost use Rattle.std.specs.Prelude.{◌≡◌, ◌↔◌, IsTrue};
 ghost use Rattle.am_clause.specs.Numbered.{IsNumbered};
 ghost use Rattle.am_clause.specs.SortedClause.{is_sorted_clause};
 ghost use Rattle.am_unify.specs.Matching.{held as is_held};
+ghost use Rattle.am_simplify.specs.Features.{clause_features};
 ghost use Rattle.am_simplify.specs.Frames.{bindings, tasks};
 ghost use Rattle.am_simplify.specs.Subsuming.{after_tasks, covers, match_literal, match_terms, meets, subsumed_by};
 ghost use Rattle.am_simplify.specs.Subsumption.{Subsumes};
 
 use crate::agreeing::is_input;
+use crate::feature_bits::within;
 use crate::frames::{Bound, Todo};
 use am_clause::Clause;
 use am_term::{Atom, Ctx, Literal, Term, fits, same, well_sorted};
@@ -19,6 +21,17 @@ pub fn subsumes(ctx: &Ctx, d: &Clause, c: &Clause) -> bool
     ensures meaning { IsNumbered d.now → IsTrue (is_sorted_clause ctx.now.sig.now ctx.now.ins.now d.now) → (IsTrue result ↔ Subsumes ctx.now.sig.now ctx.now.ins.now d.now c.now) }
 {
     covers_all(ctx, d, c)
+}
+
+/// Whether `d` subsumes `c`, where the features of both are known: these tell most of the clauses that don't. Takes no
+/// memory.
+#[tactic(auto, using(crate::proofs::Featuring::testing))]
+pub fn subsumes_featured(ctx: &Ctx, own: u64, d: &Clause, other: u64, c: &Clause) -> bool
+    requires own { own ≡ clause_features d.now }
+    requires other { other ≡ clause_features c.now }
+    ensures { result ≡ subsumed_by ctx.now.sig.now ctx.now.ins.now d.now c.now }
+{
+    within(own, other) && covers_all(ctx, d, c)
 }
 
 fn covers_all(ctx: &Ctx, d: &Clause, c: &Clause) -> bool
