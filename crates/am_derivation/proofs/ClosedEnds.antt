@@ -35,7 +35,7 @@ clause_with ls a = record { literals = ls; answer = a }
 
 -- ---- lists without members
 
-empty-list : {A : Type 0} (xs : List A) → (length xs == 0) ≡ true → xs ≡ []
+pub empty-list : {A : Type 0} (xs : List A) → (length xs == 0) ≡ true → xs ≡ []
 empty-list [] e = refl
 empty-list (x ∷ xs) e = absurd (grind (arith, nat_tests))
 
@@ -47,7 +47,7 @@ no-members : (vs : List Variable) → ((v : Variable) → Within v vs → ⊥) �
 no-members [] h = refl
 no-members (v ∷ vs) h = absurd (h v (or_left (same_variable v v) (among same_variable v vs) (same_variable-refl v)))
 
-no-variables : (c : Clause) → in_clause c ≡ [] → variables c ≡ []
+pub no-variables : (c : Clause) → in_clause c ≡ [] → variables c ≡ []
 unfolding variables
 no-variables c h = ap (distinct same_variable) h
 

@@ -9,3 +9,9 @@ pub mod LoggedRows
 pub mod ClosedEnds
 pub mod LastRows
 pub mod LogEnds
+pub mod Nestings
+pub mod SmallCloses
+pub mod NamedRows
+pub mod RestedRows
+pub mod SmallRows
+pub mod SmallLogs

@@ -47,7 +47,7 @@ others-stand xs k y ys h i z e = let same : (k + 1) + i ≡ k + suc i = omega ar
 all-stand : {A : Type 0} (xs : List A) → StandFrom xs 1 xs
 all-stand xs i y e = let same : 1 + i ≡ suc i = omega arith in ap (member xs) same ∙ e
 
-all-append : {A : Type 0} (P : A → Type 0) (xs ys : List A) → AllByRecursion P xs → AllByRecursion P ys
+pub all-append : {A : Type 0} (P : A → Type 0) (xs ys : List A) → AllByRecursion P xs → AllByRecursion P ys
     → AllByRecursion P (xs ++ ys)
 all-append P [] ys h k = k
 all-append P (x ∷ xs) ys h k = (h.0, all-append P xs ys h.1 k)

@@ -6,4 +6,4 @@
 
 mod laws;
 
-pub use laws::{law_of_counts, law_of_derivations, law_of_ends, law_of_logs};
+pub use laws::{law_of_counts, law_of_derivations, law_of_ends, law_of_logs, law_of_sizes};
