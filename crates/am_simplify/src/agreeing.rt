@@ -9,8 +9,8 @@ use crate::step::Unit;
 use am_clause::Side;
 use am_term::{Atom, Term};
 
-/// Whether the side from which a unit is used has no symbol and no input that the part lacks. Where it has one, the unit
-/// doesn't rewrite the part. Takes no memory.
+/// Whether the side from which a unit is used has no symbol and no input that the part lacks: where it has one, the
+/// unit doesn't rewrite the part. Takes no memory.
 pub fn unit_agrees(unit: &Unit, part: &Term) -> bool
     ensures { result ≡ is_unit_agreeing unit.now part.now }
 {
