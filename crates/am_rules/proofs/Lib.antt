@@ -13,6 +13,7 @@ pub mod Joining
 pub mod Solutions
 pub mod Resolutions
 pub mod Walks
+pub mod Around
 pub mod Resolved
 pub mod Replacings
 pub mod Paramodulants

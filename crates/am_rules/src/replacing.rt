@@ -1,5 +1,5 @@
-ghost use Rattle.std.specs.Prelude.{◌≡◌, ◌++◌, [], ◌∷◌, IfOk, OnOk, map, option_copied, if◌then◌else◌};
-ghost use Rattle.am_term.specs.Place.{member, with_member as is_with_member};
+ghost use Rattle.std.specs.Prelude.{◌≡◌, ◌<◌, ◌++◌, [], ◌∷◌, IfOk, OnOk, length, map, option_copied, set, if◌then◌else◌};
+ghost use Rattle.am_term.specs.Place.{member, replaced, with_member as is_with_member};
 ghost use Rattle.am_rules.specs.Parts.{literal_under};
 ghost use Rattle.am_rules.specs.Replacing.{other_of as is_other_of, with_term as is_with_term, with_put as is_with_part, put_part as is_put_part, changed, put_instance, put_instances};
 ghost use Rattle.am_term.specs.Parts.{parts_of, place_in as is_part_of};
@@ -7,7 +7,7 @@ ghost use Rattle.am_clause.specs.Rules.{side_of as is_side_of};
 
 use crate::instancing::instance_of_literal;
 use am_clause::Side;
-use am_term::{Atom, Literal, NoMemory, Term, at, copies, copy, copy_atom, put_at};
+use am_term::{Atom, Literal, NoMemory, Term, at, copies, copy, copy_atom};
 use sqlite_items::Items;
 use std::alloc::Global;
 
@@ -100,12 +100,53 @@ fn with_term(alloc: Global, atom: &Atom, k: u32, term: Term) -> Result<Atom, NoM
 fn with_member(alloc: Global, terms: &[Term], k: u32, term: Term) -> Result<Items<Term>, NoMemory>
     ensures { IfOk result (λ ts. ts ≡ is_with_member terms.now k term) }
 {
-    let mut made = copies(alloc, terms)?;
-    if k == 0 || k as usize > made.len() {
-        return Ok(made);
+    if k == 0 || k as usize > terms.len() {
+        return copies(alloc, terms);
     }
-    made.set(k as usize - 1, term);
+    copies_around(alloc, terms, k as usize - 1, term)
+}
+
+// The terms with the one at a place, from 0, replaced. Only the others are copied.
+#[tactic(auto, using(crate::proofs::Around::splitting))]
+fn copies_around(
+    alloc: Global,
+    terms: &[Term],
+    i: usize,
+    term: Term,
+) -> Result<Items<Term>, NoMemory>
+    requires { i < length terms.now }
+    ensures { IfOk result (λ ts. ts ≡ set terms.now i term) }
+{
+    let mut made = copies(alloc, &terms[..i])?;
+    made.push(term)?;
+    let behind = copies(alloc, &terms[i + 1..])?;
+    made.append(behind)?;
     Ok(made)
+}
+
+// The term with another one at a path, and none where the path leaves the term. Only what stays is copied.
+#[tactic(auto, using(am_term::proofs::Walks::places))]
+fn put_below(alloc: Global, term: &Term, path: &[u32], new: &Term) -> Result<Option<Term>, NoMemory>
+    ensures { IfOk result (λ t. t ≡ replaced new.now path.now term.now) }
+{
+    let Some((step, rest)) = path.split_first() else {
+        return Ok(Some(copy(alloc, new)?));
+    };
+    match term {
+        Term::Var { .. } => Ok(None),
+        Term::In { .. } => Ok(None),
+        Term::App { f, args } => {
+            if *step == 0 || *step as usize > args.len() {
+                return Ok(None);
+            }
+            let i = *step as usize - 1;
+            let Some(inner) = put_below(alloc, &args.as_slice()[i], rest, new)? else {
+                return Ok(None);
+            };
+            let args = copies_around(alloc, args.as_slice(), i, inner)?;
+            Ok(Some(Term::App { f: *f, args }))
+        }
+    }
 }
 
 #[tactic(auto, using(crate::proofs::Walks::replacing))]
@@ -115,7 +156,7 @@ fn with_part(alloc: Global, atom: &Atom, path: &[u32], new: &Term) -> Result<Ato
     match path {
         [] => copy_atom(alloc, atom),
         [k, rest @ ..] => match term_of(atom, *k) {
-            Some(term) => match put_at(alloc, term, rest, new)? {
+            Some(term) => match put_below(alloc, term, rest, new)? {
                 Some(put) => with_term(alloc, atom, *k, put),
                 None => copy_atom(alloc, atom),
             },
