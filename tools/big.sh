@@ -106,6 +106,33 @@ for budget in 1000 5000 10000; do
     timed make "$folder/steps" "$folder/start" --budget $budget
 done
 
+# The theory of groups with two equations more, of the inputs, and a relation that turns its argument round: the rows that
+# are kept are many, and small.
+cat > "$folder/groups" << 'END'
+(theory 1)
+(sort g double)
+(relation p (g))
+(function op (g g) g)
+(function inv (g) g)
+(function e () g)
+(axiom (all ((x g)) (= (op e x) x)))
+(axiom (all ((x g)) (= (op (inv x) x) e)))
+(axiom (all ((x g) (y g) (z g)) (= (op (op x y) z) (op x (op y z)))))
+(axiom (all ((x g) (y g)) (=> (p (op x y)) (p (op y x)))))
+END
+cat > "$folder/braid" << 'END'
+(diagram R)
+(input A g)
+(input B g)
+(output X g)
+(given (= (op A (op B A)) (op B (op A B))))
+(given (= (op A (op A A)) (op B B)))
+(require (p (op (op A B) (op X (op B X)))))
+END
+for budget in 5000 100000; do
+    timed make "$folder/groups" "$folder/braid" --budget $budget
+done
+
 # Demonstrations: each has as many axioms as its size, and one inference more.
 for size in 50 100 200 300; do
     timed demo $size
