@@ -6,12 +6,15 @@
 //! them; `search BUDGET WEIGHT CHOOSER` searches with these limits and a chooser: `weight`, `age`, `mixed`, `last`, which
 //! picks the last place, or `noting`, which goes by weight and tells what it was shown. Its answer has the end, the
 //! number of inferences, the rows that were chosen, the fate of each inferred row, the number of rows of the log, and,
-//! for `noting`, each list of rows that waited, as NUMBER:WEIGHT. A line that begins with `#` is printed as it is.
+//! for `noting`, each list of rows that waited, as NUMBER:WEIGHT; `pick CHOOSER TIMES NUMBER:WEIGHT ..` asks a chooser
+//! so many times for these rows, and its answer has the numbers of those that were picked. A line that begins with `#`
+//! is printed as it is.
 #![tactic(auto)]
 
 mod answers;
 mod choosers;
 mod notation;
+mod picking;
 mod spelling;
 
 use am_agenda::{ByAge, ByWeight, Chooser, Mixed};
@@ -20,6 +23,7 @@ use am_term::NoMemory;
 use answers::search_answer;
 use choosers::{Last, Noting};
 use notation::push_line;
+use picking::pick_answer;
 use std::alloc::Global;
 use std::cell::RefCell;
 use std::io::{self, BufRead, BufReader};
@@ -46,17 +50,11 @@ fn case_of(part: &str) -> Option<(Limits, &str)> {
     Some((Limits { budget, weight }, chooser))
 }
 
-// Prints the answer of a search.
-fn print_search(
-    rt: &impl Print,
-    alloc: Global,
-    files: &Files,
-    limits: Limits,
-    word: &str,
-) -> io::Result<()> {
+// The answer of a search with the chooser of a word.
+fn searched(alloc: Global, files: &Files, limits: Limits, word: &str) -> Result<String, NoMemory> {
     let theory = files.theory.as_slice();
     let diagram = files.diagram.as_slice();
-    let answer = match word {
+    match word {
         "age" => {
             let chooser: Box<dyn Chooser> = Box::new(alloc, ByAge::new())?;
             search_answer(alloc, theory, diagram, limits, chooser)
@@ -74,7 +72,10 @@ fn print_search(
             let chooser: Box<dyn Chooser> = Box::new(alloc, ByWeight::new())?;
             search_answer(alloc, theory, diagram, limits, chooser)
         }
-    };
+    }
+}
+
+fn print_answer(rt: &impl Print, answer: Result<String, NoMemory>) -> io::Result<()> {
     match answer {
         Ok(answer) => println!(rt; "{answer}"),
         Err(NoMemory) => println!(rt; "no memory"),
@@ -118,10 +119,15 @@ fn finish(
             files.diagram.extend_from_slice(text)?;
             Ok(())
         }
-        _ => match case_of(part) {
-            Some((limits, word)) => print_search(rt, alloc, files, limits, word),
-            None => Ok(()),
-        },
+        _ => {
+            if let Some((limits, word)) = case_of(part) {
+                print_answer(rt, searched(alloc, files, limits, word))?;
+            }
+            if let Some(words) = part.strip_prefix("pick ") {
+                print_answer(rt, pick_answer(alloc, words))?;
+            }
+            Ok(())
+        }
     }
 }
 
