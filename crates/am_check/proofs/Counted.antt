@@ -1,12 +1,12 @@
 -- The lines in front of a group, counted byte by byte.
 use Rattle.std.proofs.Common.{◌≡◌, ◌+◌, ◌-◌, ◌<◌, ◌≤◌, ◌==◌, ◌∙◌, ℕ, zero, suc, Bool, true, false, List, [], ◌∷◌, length, take, codes, refl, sym, ap, arith}
-use Rattle.std.specs.Prelude.{◌&&◌, not, if◌then◌else◌}
+use Rattle.std.specs.Prelude.{if◌then◌else◌}
 use Rattle.std.specs.List.{sum_by, starts_with}
 use Rattle.std.proofs.lemmas.List.Sums.{sum_by-cons}
 use Rattle.std.proofs.lemmas.Grind.{common_steps}
 use Rattle.std.proofs.lemmas.Bool.Decides.{nat_tests}
 use Rattle.am_log.specs.Faults.{lines_in}
-use Rattle.am_log.specs.Groups.{groups as row_groups, onto_first as onto_row, ends_group}
+use Rattle.am_log.specs.Groups.{groups as row_groups, onto_first as onto_row}
 use Rattle.am_fortran.specs.Lines.{Line, lines, onto_first, goes_on, onto_group, groups}
 use Rattle.am_fortran.proofs.Grouping.{goes_on_lines}
 use Rattle.am_check.specs.FirstFault.{row_line}

@@ -1,8 +1,6 @@
 -- What a verdict says of a text, both ways.
-use Rattle.std.proofs.Common.{◌≡◌, ◌≢◌, ◌≤◌, ◌∙◌, ◌++◌, ◌⊎◌, inl, inr, ℕ, suc, ◌+◌, refl, sym, ap, subst, arith, List, [], ◌∷◌, Option, Some, None, Result, Ok, Err, length}
+use Rattle.std.proofs.Common.{◌≡◌, ◌∙◌, ◌++◌, ℕ, suc, ◌+◌, refl, sym, ap, subst, arith, List, [], ◌∷◌, Option, Some, None, Result, Ok, Err, length}
 use Rattle.std.specs.Prelude.{◌↔◌, IfOk, MatchOption}
-use Rattle.std.proofs.lemmas.Grind.{common_steps}
-use Rattle.std.proofs.lemmas.Bool.Decides.{nat_tests}
 use Rattle.am_term.specs.declared.term.Literal.{Literal}
 use Rattle.am_term.specs.declared.term.Term.{Term}
 use Rattle.am_clause.specs.declared.clause.Clause.{Clause}
@@ -17,7 +15,7 @@ use Rattle.am_diagram.specs.Steps.{IsProof}
 use Rattle.am_log.specs.Split.{IsSplit}
 use Rattle.am_log.specs.Text.{log_text}
 use Rattle.am_check.specs.Accepted.{EndsWith, closing, closing_answer, final_answer, Accepted as IsAccepted}
-use Rattle.am_check.specs.FirstFault.{row_line, IsLog, IsProofOf, IsTextOf, IsFirstBad, HasBadRow, IsUnfinished, IsFaultOf, IsFirstFault}
+use Rattle.am_check.specs.FirstFault.{row_line, IsLog, IsProofOf, IsFirstBad, HasBadRow, IsFirstFault}
 use Rattle.am_check.specs.Laws.{HasOneOutcome}
 use Rattle.am_check.specs.Phases.{of_step, Leaves, Stops, StopsAlways, StopsText, IsVerdict}
 use Rattle.am_check.specs.declared.reason.Reason.{Reason}

@@ -4,6 +4,7 @@ pub mod Accepting
 pub mod Meant
 pub mod Outcomes
 pub mod Deciding
+pub mod Drawing
 pub mod Prefixes
 pub mod Units
 pub mod RowTests

@@ -1,14 +1,12 @@
 -- Rows that are steps, one after the other.
-use Rattle.std.proofs.Common.{◌≡◌, ◌≢◌, ◌+◌, ◌<◌, ◌++◌, ◌∙◌, ℕ, zero, suc, Bool, true, List, [], ◌∷◌, Option, Some, None, length, take, refl, sym, ap, subst, arith, map, get_or, slice_get, option_map, option_and_then, IsTrue}
-use Rattle.std.specs.List.{AllByRecursion}
+use Rattle.std.proofs.Common.{◌≡◌, ◌+◌, ◌<◌, ◌++◌, ◌∙◌, ℕ, zero, suc, List, [], ◌∷◌, Option, Some, None, length, take, refl, sym, ap, subst, arith, map, get_or, slice_get, option_map, option_and_then, IsTrue}
 use Rattle.std.proofs.lemmas.Option.{slice_get_read}
 use mathlib.Core.List.{append_assoc, append-nil}
 use Rattle.am_term.specs.declared.id.SortId.{SortId}
 use Rattle.am_term.specs.declared.signature.Signature.{Signature}
 use Rattle.am_term.specs.declared.term.Formula.{Formula}
 use Rattle.am_term.specs.Place.{member}
-use Rattle.am_term.proofs.Tests.{and_left, and_right}
-use Rattle.std.specs.List.{list_all}
+use Rattle.am_term.proofs.Tests.{and_right}
 use Rattle.am_clause.specs.declared.clause.Clause.{Clause}
 use Rattle.am_clause.specs.declared.row.Row.{Row}
 use Rattle.am_clause.specs.declared.row.Rule.{Rule}
@@ -25,8 +23,8 @@ use Rattle.am_calculus.proofs.Lists.{member-map}
 use Rattle.am_theory.specs.declared.theory.Theory.{Theory}
 use Rattle.am_diagram.specs.declared.diagram.Diagram.{Diagram}
 use Rattle.am_diagram.specs.Listed.{sorts_in}
-use Rattle.am_diagram.specs.Steps.{formulas_of, sources, IsProof}
-use Rattle.am_log.specs.Text.{AreWritable, is_sorted_row}
+use Rattle.am_diagram.specs.Steps.{sources, IsProof}
+use Rattle.am_log.specs.Text.{AreWritable}
 use Rattle.am_check.specs.FirstFault.{IsFirstBad}
 use Rattle.am_check.specs.Phases.{AreSorted}
 

@@ -13,7 +13,6 @@ use Rattle.am_theory.specs.declared.theory.Theory.{Theory}
 use Rattle.am_diagram.specs.declared.diagram.Diagram.{Diagram}
 use Rattle.am_diagram.specs.Listed.{sorts_in}
 use Rattle.am_diagram.specs.Steps.{IsProof, sources}
-use Rattle.am_log.specs.declared.fault.LogKind.{LogKind}
 use Rattle.am_log.specs.Faults.{line_at, lines_in, IsFault as IsLogFault}
 use Rattle.am_log.specs.Groups.{groups as row_groups}
 use Rattle.am_log.specs.Split.{IsSplit}

@@ -1,5 +1,5 @@
 -- For private contracts: how far a check has come, and why it stops there.
-use Rattle.std.specs.Prelude.{◌≡◌, ◌+◌, ℕ, Bool, true, false, Option, Some, None, Ok, List, [], ◌∷◌, length, map, IsTrue}
+use Rattle.std.specs.Prelude.{◌≡◌, ℕ, Bool, true, false, Option, Some, None, Ok, List, [], ◌∷◌, length, map, IsTrue}
 use Rattle.std.specs.List.{AllByRecursion, list_all}
 use Rattle.am_term.specs.declared.id.SortId.{SortId}
 use Rattle.am_term.specs.declared.signature.Signature.{Signature}

@@ -80,7 +80,8 @@ pub fn first_bad(
     diagram: &Diagram,
     rows: &[Row],
 ) -> Result<Option<(usize, StepFault)>, NoMemory>
-    requires { AreSorted theory.now diagram.now rows.now }
+    requires diagram { WellDrawn theory.now diagram.now }
+    requires sorted { AreSorted theory.now diagram.now rows.now }
     ensures { IfOk result (λ bad. MatchOption bad (IsProof theory.now diagram.now rows.now) (λ b. IsFirstBad theory.now diagram.now rows.now b.0 b.1)) }
 {
     let origin = origin_of(alloc, theory, diagram)?;

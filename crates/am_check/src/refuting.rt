@@ -1,4 +1,5 @@
 ghost use Rattle.std.specs.Prelude.{◌≡◌, ◌↔◌, IfOk, IsTrue};
+ghost use Rattle.am_diagram.specs.Facts.{WellFormed as WellDrawn};
 ghost use Rattle.am_diagram.specs.Steps.{IsProof};
 ghost use Rattle.am_check.specs.Accepted.{EndsEmpty};
 ghost use Rattle.am_check.specs.Phases.{is_bare as is_bare_clause, ends_bare};
@@ -19,6 +20,7 @@ pub fn is_proof(
     diagram: &Diagram,
     rows: &[Row],
 ) -> Result<bool, NoMemory>
+    requires { WellDrawn theory.now diagram.now }
     ensures { IfOk result (λ b. IsTrue b ↔ IsProof theory.now diagram.now rows.now) }
 {
     let sorts = input_sorts(alloc, diagram)?;

@@ -1,6 +1,7 @@
 ghost use Rattle.std.specs.Prelude.{◌≡◌, IfOk, map};
 ghost use Rattle.am_clause.specs.ClauseForm.{cnf};
 ghost use Rattle.am_check.specs.Phases.{IsOrigin};
+ghost use Rattle.am_diagram.specs.Facts.{WellFormed as WellDrawn};
 ghost use Rattle.am_diagram.specs.Listed.{sorts_in};
 ghost use Rattle.am_diagram.specs.Steps.{formulas_of};
 
@@ -22,7 +23,9 @@ pub struct Origin {
 }
 
 /// What the proofs of this diagram start from.
+#[tactic(auto, using(crate::proofs::Drawing::drawing))]
 pub fn origin_of(alloc: Global, theory: &Theory, diagram: &Diagram) -> Result<Origin, NoMemory>
+    requires diagram { WellDrawn theory.now diagram.now }
     ensures { IfOk result (IsOrigin theory.now diagram.now) }
 {
     let axioms = clauses_of_all(alloc, theory)?;

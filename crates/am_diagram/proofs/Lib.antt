@@ -4,6 +4,7 @@ mod ReadSteps
 pub mod DiagramWellFormed
 pub mod FaultlessDeclaration
 pub mod FlawsMoved
+pub mod GoalVariables
 pub mod NamesPushed
 pub mod ReadKeeps
 pub mod ScopeMatches

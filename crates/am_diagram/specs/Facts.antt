@@ -67,3 +67,11 @@ pub record WellFormed (t : Theory) (d : Diagram) : Type 0 where
   pub givens_closed : AllByRecursion (λ (l : Literal). NoVariables l.atom) d.givens
   pub required_sorted : AllByRecursion (λ (l : Literal). IsTrue (is_sorted_literal t.sig (sorts_in d.inputs) l)) d.required
   pub required_numbered : AllByRecursion (λ (l : Literal). HaveSorts (sorts_in (d.objects ++ d.outputs)) l.atom) d.required
+
+-- the diagram is well formed over some theory
+pub record IsDrawn (d : Diagram) : Type 0 where
+  pub theory : Theory
+  pub well : WellFormed theory d
+
+pub drawn : (t : Theory) (d : Diagram) → WellFormed t d → IsDrawn d
+drawn t d well = record { theory = t; well = well }

@@ -1,25 +1,22 @@
-ghost use Rattle.std.specs.Prelude.{◌≡◌, ◌++◌, IfOk, map};
+ghost use Rattle.std.specs.Prelude.{◌≡◌, ◌+◌, ◌<◌, ◌++◌, IfOk, length, map};
+ghost use Rattle.am_diagram.specs.Facts.{IsDrawn};
 ghost use Rattle.am_diagram.specs.Clauses.{negated, variables_from, output_terms, goal, given_clause, givens};
 
 use crate::diagram::Diagram;
-use am_clause::{Clause, clause_variables, renumber};
+use am_clause::{Clause, renumber};
 use am_term::{Literal, Name, NoMemory, SortId, Term, copy_atom, copy_literal};
 use sqlite_items::Items;
 use std::alloc::Global;
 
-/// The goal: the negated requirements in order, with the outputs as answer, renumbered. No memory too
-/// where there are so many variables that their numbers might exceed 32 bits.
-#[tactic(auto, unfolding(crate::specs::Clauses::goal))]
+/// The goal: the negated requirements in order, with the outputs as answer, renumbered.
+#[tactic(auto, using(crate::proofs::GoalVariables::counting), unfolding(crate::specs::Clauses::goal))]
 pub fn goal_of(alloc: Global, diagram: &Diagram) -> Result<Clause, NoMemory>
+    requires { IsDrawn diagram.now }
     ensures { IfOk result (λ c. c ≡ goal diagram.now) }
 {
     let literals = negated_all(alloc, diagram.required.as_slice())?;
     let answer = Some(output_terms(alloc, diagram)?);
-    let clause = Clause { literals, answer };
-    if clause_variables(alloc, &clause)?.len() >= 4_000_000_000 {
-        return Err(NoMemory);
-    }
-    renumber(alloc, &clause)
+    renumber(alloc, &Clause { literals, answer })
 }
 
 fn negated_all(alloc: Global, literals: &[Literal]) -> Result<Items<Literal>, NoMemory>
@@ -42,12 +39,12 @@ fn negated(alloc: Global, literal: &Literal) -> Result<Literal, NoMemory>
     })
 }
 
+#[tactic(auto, using(crate::proofs::GoalVariables::counting))]
 fn output_terms(alloc: Global, diagram: &Diagram) -> Result<Items<Term>, NoMemory>
+    requires { IsDrawn diagram.now }
     ensures { IfOk result (λ ts. ts ≡ output_terms diagram.now) }
 {
-    let Ok(count) = u32::try_from(diagram.objects.len()) else {
-        return Err(NoMemory);
-    };
+    let count = diagram.objects.len() as u32;
     variables_from(alloc, count, diagram.outputs.as_slice())
 }
 
@@ -56,6 +53,7 @@ fn variables_from(
     first: u32,
     variables: &[(Name, SortId)],
 ) -> Result<Items<Term>, NoMemory>
+    requires { first + length variables.now < 4294967296 }
     ensures { IfOk result (λ ts. ts ≡ variables_from first variables.now) }
 {
     let mut made = Items::new(alloc);
@@ -66,7 +64,7 @@ fn variables_from(
             n: number,
             sort: *sort,
         })?;
-        number = number.checked_add(1).ok_or(NoMemory)?;
+        number += 1;
         rest = behind;
     }
     Ok(made)

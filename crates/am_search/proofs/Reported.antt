@@ -8,6 +8,7 @@ use Rattle.am_clause.specs.Ancestors.{AreAncestors, AreOrdered, parents_of}
 use Rattle.am_clause.specs.ClauseForm.{cnf}
 use Rattle.am_clause.specs.declared.clause.Clause.{Clause}
 use Rattle.am_clause.specs.declared.row.Row.{Row}
+use Rattle.am_diagram.specs.Facts.{drawn}
 use Rattle.am_diagram.specs.Clauses.{goal, givens}
 use Rattle.am_diagram.specs.Listed.{sorts_in}
 use Rattle.am_diagram.specs.Steps.{formulas_of}
@@ -198,6 +199,6 @@ as_asked t d most limit pick sorts axioms asked facts e all es chosen n sorts_ar
     (subst (λ (x : Clause). Outcomes (rules_of t.sig sorts most (length axioms) (length (rows_at_first axioms x (givens d)))) (rows_at_first axioms x (givens d)) limit pick e all es chosen n) asked_is
     (subst (λ (x : List Clause). Outcomes (rules_of t.sig sorts most (length axioms) (length (rows_at_first axioms asked x))) (rows_at_first axioms asked x) limit pick e all es chosen n) facts_are o)))
 
-pub ruleset asking = (common_steps, as_asked)
+pub ruleset asking = (common_steps, as_asked, drawn)
 
 pub ruleset reporting = (common_steps, outcome_ordered, outcome_last, reported)

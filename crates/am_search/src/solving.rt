@@ -56,6 +56,7 @@ fn search_with(
     chooser: Box<dyn Chooser>,
 ) -> Result<Ended, NoMemory>
     requires weight { limits.weight ≤ 400 }
+    requires diagram { WellDrawn theory.now diagram.now }
     requires sorts { sorts.now ≡ sorts_in diagram.now.inputs }
     ensures { IfOk result (λ o. Outcomes (rules_for theory.now diagram.now limits.weight) (starting_rows theory.now diagram.now) limits.budget (pick_after chooser) o.end o.rows o.entries o.choices o.last) }
 {

@@ -1,4 +1,4 @@
-use Rattle.std.proofs.Common.{◌≡◌, ◌∙◌, sym, subst, arith, List}
+use Rattle.std.proofs.Common.{sym, subst, arith, List}
 use Rattle.std.proofs.lemmas.Option.{slice_get_within}
 use Rattle.am_clause.specs.declared.row.Row.{Row}
 use Rattle.am_check.specs.FirstFault.{IsFirstBad}
@@ -7,8 +7,8 @@ use Rattle.am_check.proofs.Rows.{written-sorted}
 use Rattle.am_check.proofs.Deciding.{bad-place, first-in}
 use Rattle.am_check.proofs.proving.proved.Goals as goal
 
-pub first_bad-requires : goal.first_bad-requires
-first_bad-requires c =
+pub first_bad-requires-clause-sorted : goal.first_bad-requires-clause-sorted
+first_bad-requires-clause-sorted c =
     subst (AreSorted c.args.theory.now c.args.diagram.now) (sym c.as_slice-rows.ensures) (written-sorted c.args.theory.now c.args.diagram.now 1 c.in_ok-log.log.rows c.in_ok-log.ensures.found.has_text)
 
 -- the first bad row is one of the log
