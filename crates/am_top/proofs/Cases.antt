@@ -1,5 +1,5 @@
 -- What each command comes to, where its files are told.
-use Rattle.std.proofs.Common.{◌≡◌, ◌∙◌, ◌⊎◌, ◌<◌, inl, inr, ℕ, refl, sym, ap, subst, Option, Some, Ok, List, length}
+use Rattle.std.proofs.Common.{◌≡◌, ◌⊎◌, ◌<◌, inl, inr, ℕ, refl, ap, subst, Option, Some, Ok, List, length}
 use Rattle.am_clause.specs.declared.row.Log.{Log}
 use Rattle.am_theory.specs.declared.theory.Theory.{Theory as TheoryValue}
 use Rattle.am_theory.specs.Contents.{Contents, contents}
@@ -25,11 +25,11 @@ use Rattle.am_top.specs.declared.answer.Refusal.TheVariants as refusal
 use Rattle.am_top.specs.declared.status.Status.TheVariants as status
 use Rattle.am_top.specs.Answers.{Prints, IsAnswerOf, IsUnread, status_of, text_of}
 use Rattle.am_top.specs.Clauses.{AreRead, SaysTheoryFault, SaysDiagramFault, SaysFileFault, SaysDemoFault, IsFound, IsSpent, HasEnded, IsContradiction, IsTooLong, IsDemonstrated}
-use Rattle.am_top.specs.Commands.{IsTheory, IsDiagram, DiagramOf, TextOf, SearchOf, EndsBy, ProductOf, IsPrinted, IsSummary, Makes, Checks, Shows, Demonstrates, demo_limits}
+use Rattle.am_top.specs.Commands.{DiagramOf, TextOf, SearchOf, EndsBy, ProductOf, IsPrinted, IsSummary, Makes, Checks, Shows, Demonstrates, demo_limits}
 use Rattle.am_top.specs.Messages.{refused_message, longer, accepted_text, spent_message, exhausted_message, contradiction_message, long_message}
 use Rattle.am_top.specs.Steps.{FromDiagram, FromText, TheText}
 use Rattle.am_top.proofs.Chains.{BehindFiles}
-use Rattle.am_top.proofs.Ends.{IsTold, IsLost, told_so, unread_status, refused_status, printed_status, theory_case, diagram_case}
+use Rattle.am_top.proofs.Ends.{IsTold, IsLost, told_so, unread_status, printed_status, theory_case, diagram_case}
 use Rattle.am_top.proofs.Histories.{spent_so, exhausted_so, contradicted_so, found_so, found_count}
 
 -- ---- what came of a command

@@ -12,19 +12,20 @@ use Rattle.am_top.specs.declared.answer.Answer.{Answer}
 use Rattle.am_top.specs.declared.answer.File.TheVariants.{Text as TextFile}
 use Rattle.am_top.specs.Answers.{Then, AreBytes, NotLoaded, IsAnswerOf}
 use Rattle.am_search.specs.Plain.{Pick}
+use Rattle.am_theory.specs.Laws.{ReadTheoriesAreWellFormed}
+use Rattle.am_diagram.specs.Laws.{ReadDiagramsAreWellFormed}
 use Rattle.am_demo.specs.Files.{theory_text, diagram_text}
 use Rattle.am_top.specs.Commands.{IsDiagram, HasDiagramFault, TheoryOf, DiagramOf, FilesOf, TextOf, Checks, Shows, Demonstrates}
 use Rattle.am_log.specs.Text.{byte_limit as text_limit}
 use Rattle.am_top.specs.Steps.{FoundTheory, FoundDiagram, FoundFiles, IsRead, IsDrawn, NoDiagram, NoFiles, FromDemo, FromText, TheText}
-use Rattle.am_top.proofs.Premises.{theories_well_formed, diagrams_well_formed}
 
 -- ---- one file
 
-pub theory_found : (told : Option (List ℕ)) (bytes read : List ℕ) (t : TheoryValue) → AreBytes file_limit told bytes → read ≡ bytes → theory read ≡ Ok (contents t) → FoundTheory told t
-theory_found told bytes read t loaded same is = record { well = theories_well_formed read t is; bytes = read; loaded = subst (AreBytes file_limit told) (sym same) loaded; read = is }
+pub theory_found : ReadTheoriesAreWellFormed → (told : Option (List ℕ)) (bytes read : List ℕ) (t : TheoryValue) → AreBytes file_limit told bytes → read ≡ bytes → theory read ≡ Ok (contents t) → FoundTheory told t
+theory_found law told bytes read t loaded same is = record { well = law read t is; bytes = read; loaded = subst (AreBytes file_limit told) (sym same) loaded; read = is }
 
-pub diagram_found : (t : TheoryValue) (told : Option (List ℕ)) (bytes read : List ℕ) (d : DiagramValue) → WellFormedTheory t → AreBytes file_limit told bytes → read ≡ bytes → diagram t read ≡ Ok d → FoundDiagram t told d
-diagram_found t told bytes read d well loaded same is = record { well = diagrams_well_formed t read d well is; bytes = read; loaded = subst (AreBytes file_limit told) (sym same) loaded; read = is }
+pub diagram_found : ReadDiagramsAreWellFormed → (t : TheoryValue) (told : Option (List ℕ)) (bytes read : List ℕ) (d : DiagramValue) → WellFormedTheory t → AreBytes file_limit told bytes → read ≡ bytes → diagram t read ≡ Ok d → FoundDiagram t told d
+diagram_found law t told bytes read d well loaded same is = record { well = law t read d well is; bytes = read; loaded = subst (AreBytes file_limit told) (sym same) loaded; read = is }
 
 -- ---- steps in a chain
 
@@ -141,11 +142,11 @@ module _ (k : ℕ) (pick : Pick) where
       demo_behind answer (inl none) = inl none
       demo_behind answer (inr is) = inr (demo_printed answer is)
 
-pub theory_read : (bytes read : List ℕ) (t : TheoryValue) → read ≡ bytes → theory read ≡ Ok (contents t) → IsRead bytes t
-theory_read bytes read t same is = subst (λ (b : List ℕ). IsRead b t) same (record { well = theories_well_formed read t is; read = is })
+pub theory_read : ReadTheoriesAreWellFormed → (bytes read : List ℕ) (t : TheoryValue) → read ≡ bytes → theory read ≡ Ok (contents t) → IsRead bytes t
+theory_read law bytes read t same is = subst (λ (b : List ℕ). IsRead b t) same (record { well = law read t is; read = is })
 
-pub diagram_read : (t : TheoryValue) (bytes read : List ℕ) (d : DiagramValue) → WellFormedTheory t → read ≡ bytes → diagram t read ≡ Ok d → IsDrawn t bytes d
-diagram_read t bytes read d well same is = subst (λ (b : List ℕ). IsDrawn t b d) same (record { well = diagrams_well_formed t read d well is; read = is })
+pub diagram_read : ReadDiagramsAreWellFormed → (t : TheoryValue) (bytes read : List ℕ) (d : DiagramValue) → WellFormedTheory t → read ≡ bytes → diagram t read ≡ Ok d → IsDrawn t bytes d
+diagram_read law t bytes read d well same is = subst (λ (b : List ℕ). IsDrawn t b d) same (record { well = law t read d well is; read = is })
 
 module _ (told : List ℕ → Option (List ℕ)) (sure : List ℕ → Type 0) (first : List ℕ) where
   pub show_text : (t : TheoryValue) (answer : Answer) → FoundTheory (told first) t → TheText t answer → Shows told sure first answer

@@ -1,5 +1,5 @@
 -- Ends of a chain, and what the files of a chain come to.
-use Rattle.std.proofs.Common.{◌≡◌, ◌⊎◌, ◌<◌, inl, inr, ℕ, refl, ap, subst, Bool, true, Option, Some, Ok, Err, List, length}
+use Rattle.std.proofs.Common.{◌≡◌, ◌⊎◌, inl, inr, ℕ, refl, ap, subst, Bool, true, Option, Some, Err, List, length}
 use Rattle.am_clause.specs.declared.row.Log.{Log}
 use Rattle.am_theory.specs.declared.theory.Theory.{Theory as TheoryValue}
 use Rattle.am_theory.specs.Limits.{file_limit}

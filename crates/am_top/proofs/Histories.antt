@@ -1,5 +1,5 @@
 -- What the outcome of a search says of the one history of the plain search.
-use Rattle.std.proofs.Common.{◌≡◌, ◌∙◌, ◌≤◌, ◌+◌, ◌++◌, arith, refl, sym, ap, subst, ℕ, Bool, true, false, Option, Some, None, List, [], ◌∷◌, length, nat_lt, if◌then◌else◌, true≢false}
+use Rattle.std.proofs.Common.{◌≡◌, ◌∙◌, ◌≤◌, ◌+◌, ◌++◌, arith, refl, sym, ap, subst, ℕ, Bool, true, false, Option, Some, None, List, [], ◌∷◌, length, nat_lt, if◌then◌else◌}
 use Rattle.std.proofs.lemmas.Bool.Decides.{nat_tests}
 use Rattle.std.proofs.lemmas.Grind.{common_steps}
 use Rattle.am_clause.specs.declared.row.Log.{Log}
@@ -8,7 +8,7 @@ use Rattle.am_theory.specs.declared.theory.Theory.{Theory as TheoryValue}
 use Rattle.am_diagram.specs.declared.diagram.Diagram.{Diagram as DiagramValue}
 use Rattle.am_agenda.specs.declared.wait_row.WaitRow.{WaitRow}
 use Rattle.am_search.specs.Laws.{OneHistory, EntriesLaw, entries_made}
-use Rattle.am_search.specs.Plain.{Due, Infers, Chooses, Ends, History, Start, Then, Choose, Infer, Pick, due, due_at, due_turn, due_choice, end_by, entries, inferences, wait_of, read}
+use Rattle.am_search.specs.Plain.{Due, Infers, Chooses, Ends, History, Start, Then, Choose, Infer, Pick, due, due_at, end_by, inferences}
 use Rattle.am_search.specs.Rules.{Rules, rules_of-starting}
 use Rattle.am_search.specs.Searched.{IsLogOf, IsSearched, entries_in, end_of, rules_for}
 use Rattle.am_clause.specs.Ancestors.{AreAncestors}

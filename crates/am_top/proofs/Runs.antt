@@ -1,5 +1,5 @@
 -- The clauses of a run, of its answer and its status.
-use Rattle.std.proofs.Common.{◌≡◌, ◌≢◌, ◌∙◌, ◌⊎◌, ◌<◌, ◌≤◌, arith, inl, inr, ℕ, refl, sym, ap, subst, Option, Some, None, Result, Ok, Err, List, length, slice_get}
+use Rattle.std.proofs.Common.{◌≡◌, ◌≢◌, ◌∙◌, ◌⊎◌, ◌<◌, ◌≤◌, arith, inl, inr, ℕ, refl, sym, subst, Option, Some, None, Result, Ok, Err, List, length, slice_get}
 use Rattle.am_outside.specs.Growth.{Grows}
 use Rattle.am_world.specs.Interpretation.{Interpretation}
 use Rattle.am_world.specs.Truth.{Models}
@@ -9,7 +9,6 @@ use Rattle.am_theory.specs.Contents.{Contents, contents}
 use Rattle.am_theory.specs.Reading.{theory}
 use Rattle.am_canon.specs.CanonicalText.{canon}
 use Rattle.am_diagram.specs.declared.diagram.Diagram.{Diagram as DiagramValue}
-use Rattle.am_diagram.specs.declared.fault.DiagramFault.{DiagramFault}
 use Rattle.am_diagram.specs.Reading.{diagram}
 use Rattle.am_diagram.specs.Steps.{formulas_of}
 use Rattle.am_log.specs.Text.{byte_limit as text_limit}
@@ -27,15 +26,14 @@ use Rattle.am_demo.specs.Files.{theory_text, diagram_text}
 use Rattle.am_words.specs.declared.command.Command.{Command}
 use Rattle.am_words.specs.declared.command.Command.TheVariants.{Make, Check, Theory as TheoryCommand, Demo}
 use Rattle.am_top.specs.declared.answer.Answer.{Answer}
-use Rattle.am_top.specs.declared.answer.Answer.TheVariants.{Text, Usage, Refused, Unread, NoMemory}
-use Rattle.am_top.specs.declared.answer.Refusal.TheVariants as refusal
+use Rattle.am_top.specs.declared.answer.Answer.TheVariants.{NoMemory}
 use Rattle.am_top.specs.declared.status.Status.{Status}
 use Rattle.am_top.specs.declared.status.Status.TheVariants as status
 use Rattle.am_top.specs.Answers.{IsUnread, CountsFaults, IsAnswerOf, status_of, text_of, message_of}
 use Rattle.am_top.specs.Clauses.{WhereMade, WhereChecked, WhereShown, WhereDemonstrated, WhereSearched, SearchesOver, IsSearch, IsMake, IsCheck, AreRead, SaysTheoryFault, SaysFaultOver, SaysDiagramFault, SaysFileFault, SaysDemoFault, IsHistoryOf, HasEnded, IsSpent, IsContradiction, IsFound, IsMade, IsTooLong, IsDemonstrated, Comes, IsAccepted, IsRefused}
 use Rattle.am_top.specs.Commands.{AllSure, IsTheory, IsDiagram, Makes, Demonstrates, HasAnswer, demo_limits}
 use Rattle.am_top.specs.Messages.{accepted_text, spent_message, exhausted_message, contradiction_message, long_message}
-use Rattle.am_top.proofs.Premises.{theories_well_formed, diagrams_well_formed}
+use Rattle.am_top.proofs.Premises.{ReadAreWellFormed}
 use Rattle.am_top.proofs.SameContents.{same_theory}
 use Rattle.am_top.proofs.TooLong.{long_theory, long_diagram, theory-long, diagram-long}
 use Rattle.am_top.proofs.Ends.{read_answer}
@@ -106,15 +104,15 @@ accepted_over a b x t u d c files others good =
     let same = same_files a b t u d c files others in
     subst (λ (y : DiagramValue). Accepted t y x) same.1 (subst (λ (y : TheoryValue). Accepted y c x) same.0 good)
 
-never_refused : EachHasOneOutcome → (a b x : List ℕ) (t u : TheoryValue) (d c : DiagramValue) (line : ℕ) (why : Reason) → AreRead a b t d → AreRead a b u c → length x ≤ text_limit → Accepted t d x → IsFirstFault u c x line why → ⊥
-never_refused law a b x t u d c line why files others short good fault =
-    let well = theories_well_formed a u others.is_theory in
-    (law u c x well (diagrams_well_formed u b c well others.is_diagram) short).not_both line why (accepted_over a b x u t c d others files good) fault
+never_refused : ReadAreWellFormed → EachHasOneOutcome → (a b x : List ℕ) (t u : TheoryValue) (d c : DiagramValue) (line : ℕ) (why : Reason) → AreRead a b t d → AreRead a b u c → length x ≤ text_limit → Accepted t d x → IsFirstFault u c x line why → ⊥
+never_refused reads law a b x t u d c line why files others short good fault =
+    let well = reads.theories a u others.is_theory in
+    (law u c x well (reads.diagrams u b c well others.is_diagram) short).not_both line why (accepted_over a b x u t c d others files good) fault
 
-right_over : AcceptedIsRight → (a b x : List ℕ) (t : TheoryValue) (d : DiagramValue) → AreRead a b t d → (good : Accepted t d x) → (w : Interpretation) → Models t.sig (formulas_of t) w → Right w t d good.unit
-right_over law a b x t d files good =
-    let well = theories_well_formed a t files.is_theory in
-    law t d x well (diagrams_well_formed t b d well files.is_diagram) good
+right_over : ReadAreWellFormed → AcceptedIsRight → (a b x : List ℕ) (t : TheoryValue) (d : DiagramValue) → AreRead a b t d → (good : Accepted t d x) → (w : Interpretation) → Models t.sig (formulas_of t) w → Right w t d good.unit
+right_over reads law a b x t d files good =
+    let well = reads.theories a t files.is_theory in
+    law t d x well (reads.diagrams t b d well files.is_diagram) good
 
 -- ---- the status of a run
 
@@ -227,9 +225,9 @@ module _ (law : EntriesLaw) (told : List ℕ → Option (List ℕ)) (sure : List
 
   -- ---- texts
 
-  pub printed_from : AcceptedIsRight → (old new : Option (List ℕ)) → (result ≢ status.Write → Grows old new (text_of answer)) → result ≡ status.Ok
+  pub printed_from : ReadAreWellFormed → AcceptedIsRight → (old new : Option (List ℕ)) → (result ≢ status.Write → Grows old new (text_of answer)) → result ≡ status.Ok
       → WhereMade command told picks (λ a b limits pick. (text : List ℕ) × IsMade a b limits pick text × Grows old new text)
-  printed_from right old new grown ok first second a b budget weight place pick e ea eb chosen =
+  printed_from reads right old new grown ok first second a b budget weight place pick e ea eb chosen =
       let s = of_answer answer result status.Ok ran ok (λ w. cc) in
       let other : result ≢ status.Write = λ w. cc in
       elim (made_at first second a b budget weight place pick e ea eb chosen) [
@@ -239,7 +237,7 @@ module _ (law : EntriesLaw) (told : List ℕ → Option (List ℕ)) (sure : List
         | ended h ↦ absurd (ended_apart _ _ _ _ answer status.Ok h s (λ k. cc) (λ k. cc) (λ k. cc))
         | too_long h is ↦ let c = clash answer _ _ s is.status in absurd cc
         | printed t d h log found p is ↦
-            (text_of answer, record { t = t; d = d; history = h; log = log; found = found; printed = p; right = right_over right a b (text_of answer) t d found.files p.2 }, grown other)
+            (text_of answer, record { t = t; d = d; history = h; log = log; found = found; printed = p; right = right_over reads right a b (text_of answer) t d found.files p.2 }, grown other)
       ]
 
   pub demonstrated_from : (old new : Option (List ℕ)) → (result ≢ status.Write → Grows old new (text_of answer)) → result ≡ status.Ok
@@ -254,9 +252,9 @@ module _ (law : EntriesLaw) (told : List ℕ → Option (List ℕ)) (sure : List
         | printed t d h log found summed is ↦ (text_of answer, summed, grown other)
       ]
 
-  pub accepted_from : AcceptedIsRight → (old new : Option (List ℕ)) → (result ≢ status.Write → Grows old new (text_of answer)) → result ≡ status.Ok
+  pub accepted_from : ReadAreWellFormed → AcceptedIsRight → (old new : Option (List ℕ)) → (result ≢ status.Write → Grows old new (text_of answer)) → result ≡ status.Ok
       → WhereChecked command told (λ a b x. IsAccepted a b x × Grows old new accepted_text)
-  accepted_from right old new grown ok first second third a b x e ea eb ex =
+  accepted_from reads right old new grown ok first second third a b x e ea eb ex =
       let s = of_answer answer result status.Ok ran ok (λ w. cc) in
       let other : result ≢ status.Write = λ w. cc in
       elim (checked_at first second third a b x e ea eb ex) [
@@ -264,7 +262,7 @@ module _ (law : EntriesLaw) (told : List ℕ → Option (List ℕ)) (sure : List
         | no_memory n r ↦ let c = clash answer _ _ s n in absurd cc
         | faulty m h is ↦ let c = clash answer _ _ s is.status in absurd cc
         | not_accepted t d line why files fault is ↦ let c = clash answer _ _ s is.status in absurd cc
-        | is_accepted t d files good is prints ↦ (record { t = t; d = d; files = files; accepted = good; right = right_over right a b x t d files good }, subst (Grows old new) prints (grown other))
+        | is_accepted t d files good is prints ↦ (record { t = t; d = d; files = files; accepted = good; right = right_over reads right a b x t d files good }, subst (Grows old new) prints (grown other))
       ]
 
   pub shown_from : (old new : Option (List ℕ)) → (result ≢ status.Write → Grows old new (text_of answer)) → result ≡ status.Ok
@@ -523,13 +521,13 @@ module _ (law : EntriesLaw) (told : List ℕ → Option (List ℕ)) (sure : List
           absurd (past_limit (text_of answer) text (sym (one_text one ancestry product a b (record { budget = budget; weight = weight }) pick t u d c h k log other text (text_of answer) found also is p.0)) p.1 long)
     ])
 
-    pub complete_check_at : EachHasOneOutcome → (first second third a b x : List ℕ) → command ≡ Some (Check first second third) → told first ≡ Some a → told second ≡ Some b → told third ≡ Some x → (t : TheoryValue) (d : DiagramValue) → AreRead a b t d
+    pub complete_check_at : ReadAreWellFormed → EachHasOneOutcome → (first second third a b x : List ℕ) → command ≡ Some (Check first second third) → told first ≡ Some a → told second ≡ Some b → told third ≡ Some x → (t : TheoryValue) (d : DiagramValue) → AreRead a b t d
         → length x ≤ text_limit → Accepted t d x → (result ≡ status.Ok) ⊎ (result ≡ status.NoMemory)
-    complete_check_at one first second third a b x e ea eb ex t d files short good = by_status answer result status.Ok ran no_write (elim (checked_at first second third a b x e ea eb ex) [
+    complete_check_at reads one first second third a b x e ea eb ex t d files short good = by_status answer result status.Ok ran no_write (elim (checked_at first second third a b x e ea eb ex) [
       | lost l ↦ absurd (calm_l (unread l.unread))
       | no_memory n r ↦ inr n
       | faulty message says is ↦ absurd (no_file_fault a b x t d message files short says)
-      | not_accepted u c line why others fault is ↦ absurd (never_refused one a b x t u d c line why files others short good fault)
+      | not_accepted u c line why others fault is ↦ absurd (never_refused reads one a b x t u d c line why files others short good fault)
       | is_accepted u c others also ok prints ↦ inl ok
     ])
 

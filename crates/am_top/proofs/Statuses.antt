@@ -1,12 +1,11 @@
 -- Which statuses each command may have.
-use Rattle.std.proofs.Common.{◌≡◌, ◌⊎◌, inl, inr, ℕ, refl, ap, sym, ◌∙◌, subst, Bool, true, false, true≢false, Option, Some, None, List}
+use Rattle.std.proofs.Common.{◌≡◌, inl, inr, ℕ, refl, ap, sym, ◌∙◌, subst, Bool, true, false, true≢false, Option, Some, None, List}
 use Rattle.am_theory.specs.declared.theory.Theory.{Theory as TheoryValue}
 use Rattle.am_diagram.specs.declared.diagram.Diagram.{Diagram as DiagramValue}
 use Rattle.am_clause.specs.declared.row.Log.{Log}
 use Rattle.am_log.specs.Text.{byte_limit as text_limit}
 use Rattle.am_search.specs.Plain.{Pick}
 use Rattle.am_search.specs.declared.outcome.Limits.{Limits}
-use Rattle.am_demo.specs.Files.{theory_text, diagram_text}
 use Rattle.am_words.specs.declared.command.Command.{Command}
 use Rattle.am_words.specs.declared.command.Command.TheVariants.{Make, Check, Theory as TheoryCommand, Demo}
 use Rattle.am_top.specs.declared.answer.Answer.{Answer}
@@ -17,7 +16,7 @@ use Rattle.am_top.specs.declared.status.Status.TheVariants as status
 use Rattle.am_top.specs.Answers.{Prints, status_of, IsUnread}
 use Rattle.am_top.specs.Commands.{AllSure, TextOf, DiagramOf, ProductOf, Makes, Checks, Shows, Demonstrates, IsSummary, Does, HasAnswer, demo_limits}
 use Rattle.am_top.specs.Clauses.{IsSearch, IsMake, IsCheck}
-use Rattle.am_top.specs.Steps.{FromDiagram, FromDemo, FromText, TheText}
+use Rattle.am_top.specs.Steps.{FromDiagram, FromText, TheText}
 use Rattle.am_top.proofs.Chains.{BehindFiles}
 use Rattle.am_top.proofs.Ends.{refused_may, printed_may, not_loaded_may, theory_may, diagram_may, search_may, unread_answer}
 

@@ -1,5 +1,5 @@
 -- What an answer says, and what is asked of it: chains of steps, each of which goes on or refuses.
-use Rattle.std.specs.Prelude.{◌≡◌, ◌≤◌, ◌<◌, ◌⊎◌, ◌++◌, ℕ, Bool, true, false, Option, List, [], ◌∷◌, length, codes}
+use Rattle.std.specs.Prelude.{◌≡◌, ◌≤◌, ◌<◌, ◌⊎◌, ℕ, Bool, true, false, Option, List, [], length}
 use Rattle.am_outside.specs.Causes.{Rose}
 use Rattle.am_outside.specs.Growth.{Grows, GrowsByPart, WhereTold}
 use Rattle.am_top.specs.declared.answer.Answer.{Answer}

@@ -1,5 +1,5 @@
 -- What single clauses of a run say, where the library tells the files that the words name.
-use Rattle.std.specs.Prelude.{◌≡◌, ◌<◌, ◌⊎◌, ℕ, Option, Some, None, Ok, Err, List, [], length, slice_get}
+use Rattle.std.specs.Prelude.{◌≡◌, ◌<◌, ◌⊎◌, ℕ, Option, Some, None, Err, List, length, slice_get}
 use Rattle.am_clause.specs.declared.row.Log.{Log}
 use Rattle.am_clause.specs.declared.row.Row.{Row}
 use Rattle.am_theory.specs.declared.theory.Theory.{Theory}

@@ -1,5 +1,5 @@
 -- Which answer each command has: the order of refusals is the order of its steps.
-use Rattle.std.specs.Prelude.{◌≡◌, ◌≤◌, ◌<◌, ◌⊎◌, ℕ, Option, Some, None, Ok, Err, List, [], ◌∷◌, length, slice_get}
+use Rattle.std.specs.Prelude.{◌≡◌, ◌≤◌, ◌<◌, ◌⊎◌, ℕ, Option, Some, None, Ok, Err, List, length, slice_get}
 use Rattle.am_term.specs.declared.term.Term.{Term}
 use Rattle.am_clause.specs.declared.row.Log.{Log}
 use Rattle.am_theory.specs.declared.theory.Theory.{Theory}

@@ -15,7 +15,7 @@ use Rattle.am_top.specs.declared.answer.Answer.{Answer}
 use Rattle.am_top.specs.declared.answer.Answer.TheVariants.{Text, Usage, Refused, Unread, NoMemory}
 use Rattle.am_top.specs.declared.answer.Refusal.TheVariants as refusal
 use Rattle.am_check.specs.Accepted.{Accepted}
-use Rattle.am_top.specs.Answers.{Then, Where, Prints, AreBytes, IsAnswerOf}
+use Rattle.am_top.specs.Answers.{Where, Prints, AreBytes, IsAnswerOf}
 use Rattle.am_search.specs.Plain.{Pick}
 use Rattle.am_search.specs.Searched.{IsSearched}
 use Rattle.am_search.specs.declared.fate.Entry.{Entry}

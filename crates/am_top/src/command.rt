@@ -28,10 +28,12 @@ use crate::printing::print;
 use crate::status::Status;
 use am_agenda::Chooser;
 use am_check::{law_of_acceptance, law_of_refusal};
+use am_diagram::diagrams_that_were_read_are_well_formed;
 use am_lineage::law_of_ancestry;
 use am_outside::{Library, Sink};
 use am_product::law_of_one_product;
 use am_search::{law_of_entries, law_of_history};
+use am_theory::theories_that_were_read_are_well_formed;
 use am_world::World;
 use std::alloc::Global;
 
@@ -143,6 +145,8 @@ pub fn run<L: Library, O: Sink, E: Sink, W: World>(
     ensures only { (result ≡ Status.Ok) ⊎ (result ≡ Status.Usage) ⊎ (result ≡ Status.File) ⊎ (result ≡ Status.Spent) ⊎ (result ≡ Status.Exhausted) ⊎ (result ≡ Status.Refused)
         ⊎ (result ≡ Status.Read) ⊎ (result ≡ Status.Write) ⊎ (result ≡ Status.NoMemory) ⊎ (result ≡ Status.Contradiction) ⊎ (result ≡ Status.Long) }
 {
+    theories_that_were_read_are_well_formed();
+    diagrams_that_were_read_are_well_formed();
     law_of_acceptance();
     law_of_refusal();
     law_of_history();

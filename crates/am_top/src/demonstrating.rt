@@ -13,11 +13,11 @@ use am_agenda::Chooser;
 use am_check::last_answer;
 use am_clause::Log;
 use am_demo::{diagram_file, summary, theory_file};
-use am_diagram::{Diagram, read_diagram};
+use am_diagram::{Diagram, diagrams_that_were_read_are_well_formed, read_diagram};
 use am_plan::calls;
 use am_search::Limits;
 use am_term::NoMemory;
-use am_theory::{Theory, read_theory};
+use am_theory::{Theory, read_theory, theories_that_were_read_are_well_formed};
 use std::alloc::Global;
 
 /// The line that sums a demonstration of size k up, or why there is none. It fetches nothing.
@@ -43,6 +43,7 @@ fn demo_theory(alloc: Global, k: u32) -> Result<Theory, Answer>
     requires { k ≤ 300 }
     ensures { MatchResult result (IsRead (theory_text k)) (IsAnswerOf (HasTheoryFault (theory_text k))) }
 {
+    theories_that_were_read_are_well_formed();
     let text = theory_file(alloc, k)?;
     match read_theory(alloc, text.as_slice()) {
         Ok(theory) => Ok(theory),
@@ -57,6 +58,7 @@ fn demo_diagram(alloc: Global, k: u32, theory: &Theory) -> Result<Diagram, Answe
     requires theory { WellFormedTheory theory.now }
     ensures { MatchResult result (IsDrawn theory.now (diagram_text k)) (IsAnswerOf (HasDiagramFault theory.now (diagram_text k))) }
 {
+    diagrams_that_were_read_are_well_formed();
     let text = diagram_file(alloc, k)?;
     match read_diagram(alloc, theory, text.as_slice()) {
         Ok(diagram) => Ok(diagram),

@@ -9,10 +9,14 @@ ghost use Rattle.am_top.specs.Steps.{FoundTheory, FoundDiagram, FoundFiles, NoTh
 use crate::answer::{Answer, File, Refusal};
 use crate::loading::load;
 use crate::messages::{diagram_message, theory_message};
-use am_diagram::{Diagram, DiagramFault, DiagramKind, read_diagram};
+use am_diagram::{
+    Diagram, DiagramFault, DiagramKind, diagrams_that_were_read_are_well_formed, read_diagram,
+};
 use am_outside::Library;
 use am_term::Name;
-use am_theory::{Theory, TheoryFault, TheoryKind, read_theory};
+use am_theory::{
+    Theory, TheoryFault, TheoryKind, read_theory, theories_that_were_read_are_well_formed,
+};
 use std::alloc::Global;
 
 /// A theory, and a diagram over it.
@@ -57,6 +61,7 @@ pub fn find_theory<L: Library>(
     ensures told { L.told library.new ≡ L.told library.old }
     ensures sure { (n : List ℕ) → L.sure library.old n → L.sure library.new n }
 {
+    theories_that_were_read_are_well_formed();
     let bytes = load(alloc, library, File::Theory, FILE_LIMIT, name)?;
     match read_theory(alloc, bytes.as_slice()) {
         Ok(theory) => Ok(theory),
@@ -78,6 +83,7 @@ fn find_diagram<L: Library>(
     ensures told { L.told library.new ≡ L.told library.old }
     ensures sure { (n : List ℕ) → L.sure library.old n → L.sure library.new n }
 {
+    diagrams_that_were_read_are_well_formed();
     let bytes = load(alloc, library, File::Diagram, FILE_LIMIT, name)?;
     match read_diagram(alloc, theory, bytes.as_slice()) {
         Ok(diagram) => Ok(diagram),

@@ -3,7 +3,7 @@ use Rattle.am_top.proofs.Growth.{rose_where_failed}
 use Rattle.am_top.proofs.command.run.Goals as goal
 
 pub returns-clause-printed : goal.returns-clause-printed
-returns-clause-printed g c = printed_from c.law_of_entries.ensures _ _ _ _ c.answer_words-answer.result c.print.result c.answer_words-answer.ensures.answer c.print.ensures.status c.law_of_acceptance.ensures _ _ c.print.ensures.text
+returns-clause-printed g c = printed_from c.law_of_entries.ensures _ _ _ _ c.answer_words-answer.result c.print.result c.answer_words-answer.ensures.answer c.print.ensures.status (record { theories = c.theories_that_were_read_are_well_formed.ensures; diagrams = c.diagrams_that_were_read_are_well_formed.ensures }) c.law_of_acceptance.ensures _ _ c.print.ensures.text
 
 pub returns-clause-right : goal.returns-clause-right
 returns-clause-right g c = λ ok first second a b budget weight place pick e ea eb chosen text made models. made.right _ models
@@ -30,7 +30,7 @@ pub returns-clause-demonstrated : goal.returns-clause-demonstrated
 returns-clause-demonstrated g c = demonstrated_from c.law_of_entries.ensures _ _ _ _ c.answer_words-answer.result c.print.result c.answer_words-answer.ensures.answer c.print.ensures.status _ _ c.print.ensures.text
 
 pub returns-clause-accepted : goal.returns-clause-accepted
-returns-clause-accepted g c = accepted_from c.law_of_entries.ensures _ _ _ _ c.answer_words-answer.result c.print.result c.answer_words-answer.ensures.answer c.print.ensures.status c.law_of_acceptance.ensures _ _ c.print.ensures.text
+returns-clause-accepted g c = accepted_from c.law_of_entries.ensures _ _ _ _ c.answer_words-answer.result c.print.result c.answer_words-answer.ensures.answer c.print.ensures.status (record { theories = c.theories_that_were_read_are_well_formed.ensures; diagrams = c.diagrams_that_were_read_are_well_formed.ensures }) c.law_of_acceptance.ensures _ _ c.print.ensures.text
 
 pub returns-clause-refused : goal.returns-clause-refused
 returns-clause-refused g c = refused_from c.law_of_entries.ensures _ _ _ _ c.answer_words-answer.result c.print.result c.answer_words-answer.ensures.answer c.print.ensures.status _ _ c.print.ensures.message
@@ -65,7 +65,7 @@ returns-clause-complete g c = λ command a b limits pick e over t d h end files 
 
 pub returns-clause-complete_check : goal.returns-clause-complete_check
 returns-clause-complete_check g c = λ first second third a b x e ea eb ex t d files short good calm_l calm_o calm_e.
-    complete_check_at c.law_of_entries.ensures _ _ _ _ c.answer_words-answer.result c.print.result c.answer_words-answer.ensures.answer c.print.ensures.status _ _ _ c.answer_words-answer.ensures.faults.rose (λ w. rose_where_failed _ _ _ _ _ (c.print.ensures.failed w)) calm_l calm_o calm_e c.law_of_refusal.ensures first second third a b x e ea eb ex t d files short good
+    complete_check_at c.law_of_entries.ensures _ _ _ _ c.answer_words-answer.result c.print.result c.answer_words-answer.ensures.answer c.print.ensures.status _ _ _ c.answer_words-answer.ensures.faults.rose (λ w. rose_where_failed _ _ _ _ _ (c.print.ensures.failed w)) calm_l calm_o calm_e (record { theories = c.theories_that_were_read_are_well_formed.ensures; diagrams = c.diagrams_that_were_read_are_well_formed.ensures }) c.law_of_refusal.ensures first second third a b x e ea eb ex t d files short good
 
 pub returns-clause-complete_refusal : goal.returns-clause-complete_refusal
 returns-clause-complete_refusal g c = λ first second third a b x e ea eb ex t d files short bad calm_l calm_o calm_e.
