@@ -82,7 +82,8 @@ pub fn law_of_renaming()
 {}
 
 /// A formula is true whatever its variables stand for exactly where each clause of its clause form is. It
-/// needs no condition on sorts: an assignment has a member for each variable, whether it occurs or not.
+/// needs no condition on sorts, as an assignment has a member for each variable, whether it occurs or not:
+/// where some sort is empty there is no assignment, and the law says nothing.
 pub fn law_of_clauses()
     ensures { (sig : Signature) (w : Interpretation) (ins : List ℕ) (f : Formula) → FormulaHolds sig w ins f ↔ AllByRecursion (ClauseHolds sig w ins) (cnf f) }
 {}
