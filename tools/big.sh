@@ -168,6 +168,32 @@ tail -n 5 tools/guide/conv.text >> "$folder/rows"
 echo "text: $(wc -c < "$folder/rows") bytes"
 timed check $data/two_routines.theory $data/conv.diagram "$folder/rows"
 
+# A forged row whose lists put a term of 131,072 leaves in the place of each of 16,384 variables: as a tree the instance would
+# have thousands of millions of nodes, and it isn't made.
+awk 'function tree(depth, leaf, t) { for (t = leaf; depth > 0; depth--) t = "(h " t " " t ")"; return t }
+function row(text, cut, begin) {
+    for (begin = "C "; length(text) > 70; begin = "C+") {
+        cut = 70
+        while (substr(text, cut, 1) == " ") cut--
+        print begin substr(text, 1, cut) > proof
+        text = substr(text, cut + 1)
+    }
+    print begin text > proof
+}
+BEGIN {
+    theory = ARGV[1]; diagram = ARGV[2]; proof = ARGV[3]; ARGC = 1
+    print "(theory 1)\n(sort q double)\n(routine H (q q) (h q))\n(relation ok (q))" > theory
+    print "(axiom (all ((x q)) (ok " tree(14, "x") ")))" > theory
+    print "(diagram FORGED)\n(input X q)\n(output Y q)\n(require (ok Y))" > diagram
+    print "C (proof 1)" > proof
+    row("(1 (axiom 1 1) (or (ok " tree(14, "q?0") ")))")
+    row("(2 (goal) (or (not (ok q?0))) (answer q?0))")
+    row("(3 (resolve 2 1 1 1 (with X) (with " tree(17, "X") ")) (or) (answer X))")
+    print "      SUBROUTINE FORGED(X, Y)\n      DOUBLE PRECISION X\n      DOUBLE PRECISION Y\n      Y = X\n      END" > proof
+}' "$folder/forge" "$folder/forged" "$folder/forgery"
+echo "text: $(wc -c < "$folder/forgery") bytes"
+timed check "$folder/forge" "$folder/forged" "$folder/forgery"
+
 # A unit of 7,200 calls, each of a routine with 12 outputs, so 86,400 locals.
 cat > "$folder/spread" << 'END'
 (theory 1)

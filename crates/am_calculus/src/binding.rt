@@ -3,6 +3,7 @@ ghost use Rattle.am_term.specs.Instance.{instance, instances};
 ghost use Rattle.am_term.specs.Instance.{instance_atom, instance_literals};
 ghost use Rattle.am_clause.specs.Bound.{instance_answer, bound};
 
+use crate::sizing::is_huge;
 use am_clause::Clause;
 use am_term::{Atom, Literal, NoMemory, Term, copy};
 use sqlite_items::Items;
@@ -90,11 +91,14 @@ fn bind_answer(
     }
 }
 
-/// The instance of a clause, nothing merged.
+/// The instance of a clause, nothing merged. No memory too where it would have more than 16,777,216 nodes.
 #[tactic(auto, using(crate::proofs::Bindings::binding))]
 pub fn bind_clause(alloc: Global, clause: &Clause, with: &[Term]) -> Result<Clause, NoMemory>
     ensures { IfOk result (λ c. c ≡ bound with.now clause.now) }
 {
+    if is_huge(alloc, clause, with)? {
+        return Err(NoMemory);
+    }
     let literals = bind_literals(alloc, clause.literals.as_slice(), with)?;
     let answer = bind_answer(alloc, &clause.answer, with)?;
     Ok(Clause { literals, answer })

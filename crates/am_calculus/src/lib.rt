@@ -14,6 +14,7 @@ mod laws;
 mod named;
 mod replacing;
 mod rules;
+mod sizing;
 mod walking;
 
 pub use binding::{bind, bind_all, bind_clause};
