@@ -171,14 +171,15 @@ timed check $data/two_routines.theory $data/conv.diagram "$folder/rows"
 # A forged row whose lists put a term of 131,072 leaves in the place of each of 16,384 variables: as a tree the instance would
 # have thousands of millions of nodes, and it isn't made.
 awk 'function tree(depth, leaf, t) { for (t = leaf; depth > 0; depth--) t = "(h " t " " t ")"; return t }
-function row(text, cut, begin) {
-    for (begin = "C "; length(text) > 70; begin = "C+") {
+function row(text, at, cut, begin) {
+    begin = "C "
+    for (at = 1; length(text) - at >= 70; at += cut) {
         cut = 70
-        while (substr(text, cut, 1) == " ") cut--
-        print begin substr(text, 1, cut) > proof
-        text = substr(text, cut + 1)
+        while (substr(text, at + cut - 1, 1) == " ") cut--
+        print begin substr(text, at, cut) > proof
+        begin = "C+"
     }
-    print begin text > proof
+    print begin substr(text, at) > proof
 }
 BEGIN {
     theory = ARGV[1]; diagram = ARGV[2]; proof = ARGV[3]; ARGC = 1
