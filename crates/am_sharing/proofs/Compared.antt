@@ -32,7 +32,7 @@ map-drop h zero xs = refl
 map-drop h (suc i) [] = refl
 map-drop h (suc i) (x ∷ xs) = map-drop h i xs
 
-length-map : {X Y : Type 0} (h : X → Y) (xs : List X) → length (map h xs) ≡ length xs
+pub length-map : {X Y : Type 0} (h : X → Y) (xs : List X) → length (map h xs) ≡ length xs
 length-map h [] = refl
 length-map h (x ∷ xs) = ap suc (length-map h xs)
 

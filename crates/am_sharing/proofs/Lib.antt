@@ -1,3 +1,6 @@
 pub mod Compared
+pub mod Matched
 pub mod Nodes
+pub mod Pairs
+pub mod Sorted
 pub mod Walks

@@ -62,7 +62,7 @@ pub ruleset reading = (node-below, node-term)
 number-is : (n m : ℕ) → IsTrue (n == m) → n ≡ m
 number-is n m e = grind (arith, nat_tests)
 
-number-same : (n m : ℕ) → n ≡ m → IsTrue (n == m)
+pub number-same : (n m : ℕ) → n ≡ m → IsTrue (n == m)
 number-same n m e = grind (arith, nat_tests)
 
 pub same-id : (ns : List Shared) → IsBank ns → (i j : ℕ) → i < length ns → j < length ns → (i == j) ≡ same_term (term_at ns i) (term_at ns j)

@@ -1,2 +1,4 @@
 pub mod Bound
+pub mod Matching
+pub mod Pairs
 pub mod Terms

@@ -1,0 +1,142 @@
+ghost use Rattle.std.specs.Prelude.{◌≡◌, ◌<◌, ◌≤◌, ℕ, Some, IfOk, length, map};
+ghost use Rattle.am_term.specs.declared.id.SortId.{SortId};
+ghost use Rattle.am_term.specs.declared.term.Term.{Term};
+ghost use Rattle.am_unify.specs.Matching.{bind_held, held as is_held, match_all, matched};
+ghost use Rattle.am_unify.specs.Unifier.{IsSortedUnder};
+ghost use Rattle.am_bank.specs.Bank.{IsBank};
+ghost use Rattle.am_bank.specs.Trees.{tree};
+ghost use Rattle.am_sharing.specs.Bound.{bound};
+ghost use Rattle.am_sharing.specs.Matching.{IsMatchedShared};
+ghost use Rattle.am_sharing.specs.Pairs.{answer_at, answer_bound, pairs_at, pairs_bound};
+ghost use Rattle.am_sharing.specs.Terms.{term_at, terms_at};
+
+use crate::binding::{held, inserted};
+use crate::node::node;
+use crate::sorting::sort_at;
+use am_bank::{Bank, Node, SharedSubst, TermId};
+use am_term::{Ctx, NoMemory, SortId, fits};
+use sqlite_items::Items;
+use std::alloc::Global;
+
+/// The one instance of the pattern's term that the other id's term is, whose variables are constants here: where
+/// the pattern is well sorted and its variables of one number have one sort, it binds exactly these to ids
+/// of terms whose sorts fit. None exactly where no instance is the term. Equal terms are known by their ids,
+/// and no term is made.
+pub fn matches_shared(
+    alloc: Global,
+    ctx: &Ctx,
+    bank: &Bank,
+    pattern: TermId,
+    term: TermId,
+) -> Result<Option<SharedSubst>, NoMemory>
+    requires pattern { pattern.0 < length bank.now }
+    requires term { term.0 < length bank.now }
+    ensures { (sorts : ℕ → SortId) (a b : Term) → tree bank.now pattern.0 ≡ Some a → tree bank.now term.0 ≡ Some b → IsSortedUnder ctx.now.sig.now ctx.now.ins.now sorts a → IfOk result (λ o. IsMatchedShared bank.now ctx.now.sig.now ctx.now.ins.now sorts a b o) }
+{
+    match extended(alloc, ctx, bank, pattern, term, Items::new(alloc))? {
+        Some(found) => Ok(Some(SharedSubst(found))),
+        None => Ok(None),
+    }
+}
+
+// What is bound once the pattern is matched too.
+#[cycle(matching)]
+#[tactic(auto, using(crate::proofs::Matched::extending))]
+fn extended(
+    alloc: Global,
+    ctx: &Ctx,
+    bank: &Bank,
+    pattern: TermId,
+    term: TermId,
+    found: Items<(u32, TermId)>,
+) -> Result<Option<Items<(u32, TermId)>>, NoMemory>
+    requires pattern { pattern.0 < length bank.now }
+    requires term { term.0 < length bank.now }
+    requires found { pairs_bound found ≤ length bank.now }
+    ensures is { IfOk result (λ o. answer_at bank.now o ≡ matched ctx.now.sig.now ctx.now.ins.now (term_at bank.now pattern.0) (term_at bank.now term.0) (pairs_at bank.now found)) }
+    ensures within { IfOk result (λ o. answer_bound o ≤ length bank.now) }
+{
+    match node(bank, pattern) {
+        Node::Var { n, sort } => variable_bound(alloc, ctx, bank, *n, *sort, term, found),
+        Node::In { .. } => {
+            if pattern == term {
+                return Ok(Some(found));
+            }
+            Ok(None)
+        }
+        Node::App { f, args } => match node(bank, term) {
+            Node::Var { .. } => Ok(None),
+            Node::In { .. } => Ok(None),
+            Node::App { f: g, args: others } => {
+                if f.0 != g.0 {
+                    return Ok(None);
+                }
+                if args.len() != others.len() {
+                    return Ok(None);
+                }
+                extended_all(alloc, ctx, bank, args.as_slice(), others.as_slice(), found)
+            }
+        },
+    }
+}
+
+// What is bound once as many patterns as terms are matched too.
+#[cycle(matching)]
+#[tactic(auto, using(crate::proofs::Matched::extending))]
+fn extended_all(
+    alloc: Global,
+    ctx: &Ctx,
+    bank: &Bank,
+    patterns: &[TermId],
+    terms: &[TermId],
+    found: Items<(u32, TermId)>,
+) -> Result<Option<Items<(u32, TermId)>>, NoMemory>
+    requires patterns { bound patterns.now ≤ length bank.now }
+    requires terms { bound terms.now ≤ length bank.now }
+    requires found { pairs_bound found ≤ length bank.now }
+    ensures is { IfOk result (λ o. answer_at bank.now o ≡ match_all (map (matched ctx.now.sig.now ctx.now.ins.now) (terms_at bank.now patterns.now)) (terms_at bank.now terms.now) (pairs_at bank.now found)) }
+    ensures within { IfOk result (λ o. answer_bound o ≤ length bank.now) }
+{
+    if patterns.len() != terms.len() {
+        return Ok(None);
+    }
+    let mut found = found;
+    for i in 0..patterns.len() {
+        match extended(alloc, ctx, bank, patterns[i], terms[i], found)? {
+            Some(more) => found = more,
+            None => return Ok(None),
+        }
+    }
+    Ok(Some(found))
+}
+
+// A variable that is bound has to meet its id again; another takes an id whose term's sort fits.
+#[tactic(auto, using(crate::proofs::Matched::bind_ids))]
+fn variable_bound(
+    alloc: Global,
+    ctx: &Ctx,
+    bank: &Bank,
+    n: u32,
+    sort: SortId,
+    term: TermId,
+    found: Items<(u32, TermId)>,
+) -> Result<Option<Items<(u32, TermId)>>, NoMemory>
+    requires bank { IsBank bank.now }
+    requires term { term.0 < length bank.now }
+    requires found { pairs_bound found ≤ length bank.now }
+    ensures is { IfOk result (λ o. answer_at bank.now o ≡ bind_held ctx.now.sig.now ctx.now.ins.now n sort (term_at bank.now term.0) (pairs_at bank.now found) (is_held (pairs_at bank.now found) n (term_at bank.now term.0))) }
+    ensures within { IfOk result (λ o. answer_bound o ≤ length bank.now) }
+{
+    match held(found.as_slice(), n, term) {
+        Some(true) => return Ok(Some(found)),
+        Some(false) => return Ok(None),
+        None => {}
+    }
+    let Some(own) = sort_at(ctx, bank, term) else {
+        return Ok(None);
+    };
+    if !fits(ctx.sig, own, sort) {
+        return Ok(None);
+    }
+    Ok(Some(inserted(alloc, found.as_slice(), n, term)?))
+}
