@@ -1,5 +1,5 @@
 -- Matching of two ids' terms, by their nodes.
-use Rattle.std.proofs.Common.{◌≡◌, ◌≢◌, ◌==◌, ◌&&◌, ◌+◌, ◌<◌, ◌≤◌, ◌∙◌, ℕ, Bool, true, false, List, [], ◌∷◌, Option, Some, None, refl, sym, ap, ap₂, subst, map, option_map, length, drop, get_or, max, arith, if◌then◌else◌}
+use Rattle.std.proofs.Common.{◌≡◌, ◌≢◌, ◌==◌, ◌&&◌, ◌+◌, ◌<◌, ◌≤◌, ◌∙◌, ℕ, Bool, true, false, true≢false, List, [], ◌∷◌, Option, Some, None, refl, sym, ap, ap₂, subst, map, option_map, length, drop, get_or, max, arith, if◌then◌else◌}
 use Rattle.std.proofs.lemmas.Grind.{common_steps}
 use Rattle.std.proofs.lemmas.Bool.Decides.{nat_tests}
 use Rattle.std.proofs.lemmas.List.{drop_more, length-map as mapped-length}
@@ -34,6 +34,10 @@ other : (m n : ℕ) → m ≢ n → (m == n) ≡ false
 other m n h = grind (arith, nat_tests)
 
 module _ (sig : Signature) (ins : List SortId) (ns : List Shared) where
+  -- other counts don't match
+  pub ids-unequal : (ps ts : List TermId) (bs : List (ℕ × Term)) → length ps ≢ length ts → match_all (map (matched sig ins) (terms_at ns ps)) (terms_at ns ts) bs ≡ None
+  ids-unequal ps ts bs h = all-count sig ins (terms_at ns ps) (terms_at ns ts) bs (λ e. h (sym (length-map (λ (i : TermId). term_at ns i.0) ps) ∙ e ∙ length-map (λ (i : TermId). term_at ns i.0) ts))
+
   module _ (p t : ℕ) (bs : List (ℕ × Term)) where
     abbrev Is : Option (List (ℕ × Term)) → Type 0
     Is o = matched sig ins (term_at ns p) (term_at ns t) bs ≡ o
@@ -77,15 +81,12 @@ module _ (sig : Signature) (ins : List SortId) (ns : List Shared) where
         lengths : (length (map (matched sig ins) (terms_at ns ps)) == length (terms_at ns ts)) ≡ (length ps == length ts)
         lengths = ap₂ (λ (m n : ℕ). m == n) (mapped-length (terms_at ns ps) (matched sig ins) ∙ length-map (λ (i : TermId). term_at ns i.0) ps) (length-map (λ (i : TermId). term_at ns i.0) ts)
 
-        pub match-unequal : f.0 ≡ g.0 → length ps ≢ length ts → Is None
-        match-unequal is are = by_test true false (number-same f.0 g.0 is) (lengths ∙ other (length ps) (length ts) are)
-
-        pub match-all : f.0 ≡ g.0 → length ps ≡ length ts → Is (match_all (map (matched sig ins) (terms_at ns ps)) (terms_at ns ts) bs)
-        match-all is are = by_test true true (number-same f.0 g.0 is) (lengths ∙ number-same (length ps) (length ts) are)
-
-  -- other counts don't match
-  pub ids-unequal : (ps ts : List TermId) (bs : List (ℕ × Term)) → length ps ≢ length ts → match_all (map (matched sig ins) (terms_at ns ps)) (terms_at ns ts) bs ≡ None
-  ids-unequal ps ts bs h = all-count sig ins (terms_at ns ps) (terms_at ns ts) bs (λ e. h (sym (length-map (λ (i : TermId). term_at ns i.0) ps) ∙ e ∙ length-map (λ (i : TermId). term_at ns i.0) ts))
+        pub match-all : f.0 ≡ g.0 → Is (match_all (map (matched sig ins) (terms_at ns ps)) (terms_at ns ts) bs)
+        match-all is = by_count (length ps == length ts) refl
+          where
+            by_count : (b : Bool) → (length ps == length ts) ≡ b → Is (match_all (map (matched sig ins) (terms_at ns ps)) (terms_at ns ts) bs)
+            by_count true are = by_test true true (number-same f.0 g.0 is) (lengths ∙ are)
+            by_count false are = by_test true false (number-same f.0 g.0 is) (lengths ∙ are) ∙ sym (ids-unequal ps ts bs (λ e. true≢false (sym (number-same (length ps) (length ts) e) ∙ are)))
 
   -- the first of what is left, and what is behind it
   pub ids-match : (ps ts : List TermId) (bs : List (ℕ × Term)) (i : ℕ) (x y : TermId) → i < length ps → i < length ts → match_all (map (matched sig ins) (terms_at ns (drop i ps))) (terms_at ns (drop i ts)) bs ≡ and_then (matched sig ins (term_at ns (get_or ps i x).0) (term_at ns (get_or ts i y).0) bs) (match_all (map (matched sig ins) (terms_at ns (drop (i + 1) ps))) (terms_at ns (drop (i + 1) ts)))
@@ -103,6 +104,6 @@ module _ (sig : Signature) (ins : List SortId) (ns : List Shared) where
     pub answered : (o q : Option (List (ℕ × TermId))) → o ≡ q → answer_bound o ≤ length ns → answer_at ns o ≡ matched sig ins (term_at ns p) (term_at ns t) (pairs_at ns before) → IsMatchedShared ns sig ins sorts a b (option_map shared_subst q)
     answered o q same l is = by_answer q (subst (λ (r : Option (List (ℕ × TermId))). answer_bound r ≤ length ns) same l) (ap (answer_at ns) (sym same) ∙ is ∙ terms-are)
 
-pub ruleset extending = (common_steps, nat_tests, bound-at, match-Var, match-input, match-other, match-App-Var, match-App-In, match-unlike, match-unequal, match-all, ids-unequal, ids-match)
+pub ruleset extending = (common_steps, nat_tests, bound-at, match-Var, match-input, match-other, match-App-Var, match-App-In, match-unlike, match-all, ids-unequal, ids-match)
 
 pub ruleset bind_ids = (common_steps, nat_tests, held-is, insert-is, insert-bound)

@@ -1,7 +1,8 @@
-//! The path order on shared terms.
+//! The path order and matching on shared terms.
 //!
-//! Which term an id stands for is said by `am_bank`, which term is greater by `am_order`; `specs/Terms` and
-//! `specs/Bound` are words of private contracts. The crate rests on these two crates.
+//! Which term an id stands for is said by `am_bank`, which term is greater by `am_order`, which instance of a
+//! pattern is a term by `am_unify`; `specs/Matching` says the last of ids. `specs/Terms`, `specs/Bound` and
+//! `specs/Pairs` are words of private contracts. The crate rests on these three crates.
 #![tactic(auto)]
 
 mod binding;

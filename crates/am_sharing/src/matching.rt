@@ -71,9 +71,6 @@ fn extended(
                 if f.0 != g.0 {
                     return Ok(None);
                 }
-                if args.len() != others.len() {
-                    return Ok(None);
-                }
                 extended_all(alloc, ctx, bank, args.as_slice(), others.as_slice(), found)
             }
         },
