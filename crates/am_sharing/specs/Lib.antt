@@ -1,4 +1,5 @@
 pub mod Bound
 pub mod Matching
 pub mod Pairs
+pub mod SortTable
 pub mod Terms

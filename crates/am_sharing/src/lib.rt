@@ -6,6 +6,7 @@
 #![tactic(auto)]
 
 mod binding;
+mod laws;
 mod matching;
 mod node;
 mod order;
@@ -15,5 +16,6 @@ mod sorting;
 #[cfg(test)]
 mod tests;
 
-pub use matching::matches_shared;
+pub use laws::law_of_sort_tables;
+pub use matching::{matches_shared, matches_tabled};
 pub use sides::{greater_shared, orient_shared};

@@ -8,6 +8,7 @@ ghost use Rattle.am_bank.specs.Trees.{tree};
 ghost use Rattle.am_sharing.specs.Bound.{bound};
 ghost use Rattle.am_sharing.specs.Matching.{IsMatchedShared};
 ghost use Rattle.am_sharing.specs.Pairs.{answer_at, answer_bound, pairs_at, pairs_bound};
+ghost use Rattle.am_sharing.specs.SortTable.{IsSortTable};
 ghost use Rattle.am_sharing.specs.Terms.{term_at, terms_at};
 
 use crate::binding::{held, inserted};
@@ -21,7 +22,7 @@ use std::alloc::Global;
 /// The one instance of the pattern's term that the other id's term is, whose variables are constants here: where
 /// the pattern is well sorted and its variables of one number have one sort, it binds exactly these to ids
 /// of terms whose sorts fit. None exactly where no instance is the term. Equal terms are known by their ids,
-/// and no term is made.
+/// and no term is made. Where a variable is bound, the sorts of all smaller ids' terms are found once.
 pub fn matches_shared(
     alloc: Global,
     ctx: &Ctx,
@@ -33,7 +34,28 @@ pub fn matches_shared(
     requires term { term.0 < length bank.now }
     ensures { (sorts : ℕ → SortId) (a b : Term) → tree bank.now pattern.0 ≡ Some a → tree bank.now term.0 ≡ Some b → IsSortedUnder ctx.now.sig.now ctx.now.ins.now sorts a → IfOk result (λ o. IsMatchedShared bank.now ctx.now.sig.now ctx.now.ins.now sorts a b o) }
 {
-    match extended(alloc, ctx, bank, pattern, term, Items::new(alloc))? {
+    let mut table = Items::new(alloc);
+    matches_tabled(alloc, ctx, bank, &mut table, pattern, term)
+}
+
+/// As `matches_shared`, with a table of sorts that is kept from call to call: the sort of each id's term is
+/// found once, as far as it is asked for. A new table is empty, and one table serves one signature with sorts
+/// of inputs and one bank, which may grow.
+pub fn matches_tabled(
+    alloc: Global,
+    ctx: &Ctx,
+    bank: &Bank,
+    table: &mut Items<Option<SortId>>,
+    pattern: TermId,
+    term: TermId,
+) -> Result<Option<SharedSubst>, NoMemory>
+    requires pattern { pattern.0 < length bank.now }
+    requires term { term.0 < length bank.now }
+    requires table { IsSortTable ctx.now.sig.now ctx.now.ins.now bank.now table.old }
+    ensures answer { (sorts : ℕ → SortId) (a b : Term) → tree bank.now pattern.0 ≡ Some a → tree bank.now term.0 ≡ Some b → IsSortedUnder ctx.now.sig.now ctx.now.ins.now sorts a → IfOk result (λ o. IsMatchedShared bank.now ctx.now.sig.now ctx.now.ins.now sorts a b o) }
+    ensures table { IsSortTable ctx.now.sig.now ctx.now.ins.now bank.now table.new }
+{
+    match extended(alloc, ctx, bank, table, pattern, term, Items::new(alloc))? {
         Some(found) => Ok(Some(SharedSubst(found))),
         None => Ok(None),
     }
@@ -46,6 +68,7 @@ fn extended(
     alloc: Global,
     ctx: &Ctx,
     bank: &Bank,
+    table: &mut Items<Option<SortId>>,
     pattern: TermId,
     term: TermId,
     found: Items<(u32, TermId)>,
@@ -53,11 +76,13 @@ fn extended(
     requires pattern { pattern.0 < length bank.now }
     requires term { term.0 < length bank.now }
     requires found { pairs_bound found ≤ length bank.now }
+    requires table { IsSortTable ctx.now.sig.now ctx.now.ins.now bank.now table.old }
     ensures is { IfOk result (λ o. answer_at bank.now o ≡ matched ctx.now.sig.now ctx.now.ins.now (term_at bank.now pattern.0) (term_at bank.now term.0) (pairs_at bank.now found)) }
     ensures within { IfOk result (λ o. answer_bound o ≤ length bank.now) }
+    ensures table { IsSortTable ctx.now.sig.now ctx.now.ins.now bank.now table.new }
 {
     match node(bank, pattern) {
-        Node::Var { n, sort } => variable_bound(alloc, ctx, bank, *n, *sort, term, found),
+        Node::Var { n, sort } => variable_bound(alloc, ctx, bank, table, (*n, *sort), term, found),
         Node::In { .. } => {
             if pattern == term {
                 return Ok(Some(found));
@@ -71,7 +96,7 @@ fn extended(
                 if f.0 != g.0 {
                     return Ok(None);
                 }
-                extended_all(alloc, ctx, bank, args.as_slice(), others.as_slice(), found)
+                extended_all(alloc, ctx, bank, table, args.as_slice(), others.as_slice(), found)
             }
         },
     }
@@ -84,6 +109,7 @@ fn extended_all(
     alloc: Global,
     ctx: &Ctx,
     bank: &Bank,
+    table: &mut Items<Option<SortId>>,
     patterns: &[TermId],
     terms: &[TermId],
     found: Items<(u32, TermId)>,
@@ -91,15 +117,17 @@ fn extended_all(
     requires patterns { bound patterns.now ≤ length bank.now }
     requires terms { bound terms.now ≤ length bank.now }
     requires found { pairs_bound found ≤ length bank.now }
+    requires table { IsSortTable ctx.now.sig.now ctx.now.ins.now bank.now table.old }
     ensures is { IfOk result (λ o. answer_at bank.now o ≡ match_all (map (matched ctx.now.sig.now ctx.now.ins.now) (terms_at bank.now patterns.now)) (terms_at bank.now terms.now) (pairs_at bank.now found)) }
     ensures within { IfOk result (λ o. answer_bound o ≤ length bank.now) }
+    ensures table { IsSortTable ctx.now.sig.now ctx.now.ins.now bank.now table.new }
 {
     if patterns.len() != terms.len() {
         return Ok(None);
     }
     let mut found = found;
     for i in 0..patterns.len() {
-        match extended(alloc, ctx, bank, patterns[i], terms[i], found)? {
+        match extended(alloc, ctx, bank, table, patterns[i], terms[i], found)? {
             Some(more) => found = more,
             None => return Ok(None),
         }
@@ -113,23 +141,26 @@ fn variable_bound(
     alloc: Global,
     ctx: &Ctx,
     bank: &Bank,
-    n: u32,
-    sort: SortId,
+    table: &mut Items<Option<SortId>>,
+    variable: (u32, SortId),
     term: TermId,
     found: Items<(u32, TermId)>,
 ) -> Result<Option<Items<(u32, TermId)>>, NoMemory>
     requires bank { IsBank bank.now }
     requires term { term.0 < length bank.now }
     requires found { pairs_bound found ≤ length bank.now }
-    ensures is { IfOk result (λ o. answer_at bank.now o ≡ bind_held ctx.now.sig.now ctx.now.ins.now n sort (term_at bank.now term.0) (pairs_at bank.now found) (is_held (pairs_at bank.now found) n (term_at bank.now term.0))) }
+    requires table { IsSortTable ctx.now.sig.now ctx.now.ins.now bank.now table.old }
+    ensures is { IfOk result (λ o. answer_at bank.now o ≡ bind_held ctx.now.sig.now ctx.now.ins.now variable.0 variable.1 (term_at bank.now term.0) (pairs_at bank.now found) (is_held (pairs_at bank.now found) variable.0 (term_at bank.now term.0))) }
     ensures within { IfOk result (λ o. answer_bound o ≤ length bank.now) }
+    ensures table { IsSortTable ctx.now.sig.now ctx.now.ins.now bank.now table.new }
 {
+    let (n, sort) = variable;
     match held(found.as_slice(), n, term) {
         Some(true) => return Ok(Some(found)),
         Some(false) => return Ok(None),
         None => {}
     }
-    let Some(own) = sort_at(ctx, bank, term) else {
+    let Some(own) = sort_at(ctx, bank, table, term)? else {
         return Ok(None);
     };
     if !fits(ctx.sig, own, sort) {

@@ -2,6 +2,7 @@ use Rattle.std.proofs.Common.{◌≡◌, ◌≤◌, ◌+◌, ◌*◌, drop, map,
 use Rattle.am_unify.specs.Matching.{match_all, matched}
 use Rattle.am_sharing.specs.Bound.{bound}
 use Rattle.am_sharing.specs.Pairs.{pairs_at, pairs_bound}
+use Rattle.am_sharing.specs.SortTable.{IsSortTable}
 use Rattle.am_sharing.specs.Terms.{terms_at}
 use Rattle.am_sharing.proofs.matching.+matching.Given as goal
 
@@ -11,8 +12,9 @@ decreases-extended l = 2 * l.pattern.0 + 1
 abbrev pub decreases-extended_all : goal.decreases-extended_all
 decreases-extended_all l = 2 * bound l.patterns.now
 
--- what is left decides
+-- the table is one of sorts, and what is left decides
 abbrev pub invariant-extended_all-loop-i : goal.invariant-extended_all-loop-i
 invariant-extended_all-loop-i l =
-    (pairs_bound l.found ≤ length l.bank)
+    IsSortTable l.ctx.sig.now l.ctx.ins.now l.bank l.table
+    × (pairs_bound l.found ≤ length l.bank)
     × (match_all (map (matched l.ctx.sig.now l.ctx.ins.now) (terms_at l.bank l.patterns)) (terms_at l.bank l.terms) (pairs_at l.bank l.fn.found) ≡ match_all (map (matched l.ctx.sig.now l.ctx.ins.now) (terms_at l.bank (drop l.i l.patterns))) (terms_at l.bank (drop l.i l.terms)) (pairs_at l.bank l.found))
