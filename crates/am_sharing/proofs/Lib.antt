@@ -3,4 +3,5 @@ pub mod Matched
 pub mod Nodes
 pub mod Pairs
 pub mod Sorted
+pub mod Twice
 pub mod Walks

@@ -1,8 +1,9 @@
 //! The path order and matching on shared terms.
 //!
 //! Which term an id stands for is said by `am_bank`, which term is greater by `am_order`, which instance of a
-//! pattern is a term by `am_unify`; `specs/Matching` says the last of ids. `specs/Terms`, `specs/Bound` and
-//! `specs/Pairs` are words of private contracts. The crate rests on these three crates.
+//! pattern is a term by `am_unify`. `specs/Matching` says what matching answers over ids, `specs/SortTable` what
+//! a table of sorts holds; `specs/Terms`, `specs/Bound` and `specs/Pairs` are words of private contracts. The
+//! crate rests on these three crates.
 #![tactic(auto)]
 
 mod binding;

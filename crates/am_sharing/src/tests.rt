@@ -1,10 +1,10 @@
 //! Pairs of small terms, each with its answer. They are ordered over a signature without symbols: there the
 //! later symbol stands above the earlier one. They are matched over one with three sorts and a symbol.
 
-ghost use Rattle.std.specs.Prelude.{◌≡◌, IfOk, length};
+ghost use Rattle.std.specs.Prelude.{◌≡◌, ◌<◌, IfOk, length};
 
-use crate::{greater_shared, matches_shared, orient_shared};
-use am_bank::{Bank, SharedSubst, TermId};
+use crate::{greater_shared, matches_shared, matches_tabled, orient_shared};
+use am_bank::{Bank, Node, SharedSubst, TermId};
 use am_order::Oriented;
 use am_term::{Ctx, Name, NoMemory, Signature, SortId, SymId, SymKind, Symbol, Term};
 use sqlite_items::Items;
@@ -295,6 +295,67 @@ fn is_matched(
         Some(found) => are_bound(alloc, &mut bank, found.0.as_slice(), answer),
         None => Ok(matches!(answer, Answer::Unmatched)),
     }
+}
+
+// A symbol at a term and the same term again.
+#[tactic(auto, using(crate::proofs::Twice::doubling))]
+fn doubled(alloc: Global, bank: &mut Bank, id: TermId) -> Result<TermId, NoMemory>
+    requires { id.0 < length bank.old }
+    ensures { IfOk result (λ d. d.0 < length bank.new) }
+{
+    let mut args = Vec::new(alloc);
+    args.push(id)?;
+    args.push(id)?;
+    let id = bank.intern(Node::App { f: SymId(0), args })?;
+    Ok(id)
+}
+
+// A term that shares all its parts, and would have 2 ^ 41 - 1 nodes if it didn't.
+fn deep(alloc: Global, bank: &mut Bank) -> Result<TermId, NoMemory>
+    ensures { IfOk result (λ d. d.0 < length bank.new) }
+{
+    let mut id = bank.build(alloc, &Term::In { k: 0 })?;
+    for _level in 0..40 {
+        id = doubled(alloc, bank, id)?;
+    }
+    Ok(id)
+}
+
+// How many sorts a table has once a variable was matched with the deep term, and matched again, and whether it
+// was bound to that term.
+fn sorts_of_deep(alloc: Global) -> Result<(usize, bool), NoMemory> {
+    let sig = sorted_signature(alloc)?;
+    let ins = [SortId(1)];
+    let mut bank = Bank::new(alloc);
+    let term = deep(alloc, &mut bank)?;
+    let pattern = bank.build(alloc, &variable(0))?;
+    let ctx = Ctx {
+        sig: &sig,
+        ins: &ins,
+    };
+    let mut table = Items::new(alloc);
+    matches_tabled(alloc, &ctx, &bank, &mut table, pattern, term)?;
+    let found = matches_tabled(alloc, &ctx, &bank, &mut table, pattern, term)?;
+    Ok((table.len(), is_one(&found, term)))
+}
+
+// Whether variable 0 alone is bound, to this id.
+fn is_one(found: &Option<SharedSubst>, id: TermId) -> bool {
+    match found {
+        Some(found) => match found.0.as_slice() {
+            [pair] => pair.0 == 0 && pair.1 == id,
+            _ => false,
+        },
+        None => false,
+    }
+}
+
+#[test]
+fn shared_parts(rt: HostRuntime) -> Result<(), Fail> {
+    let (sorts, bound) = sorts_of_deep(rt.alloc())?;
+    assert!(rt; bound);
+    assert!(rt; sorts == 41);
+    Ok(())
 }
 
 #[test]
