@@ -1,5 +1,5 @@
 -- Matching of two ids' terms, by their nodes.
-use Rattle.std.proofs.Common.{◌≡◌, ◌≢◌, ◌==◌, ◌&&◌, ◌+◌, ◌<◌, ◌≤◌, ◌∙◌, ℕ, Bool, true, false, true≢false, List, [], ◌∷◌, Option, Some, None, refl, sym, ap, ap₂, subst, map, option_map, length, drop, get_or, max, arith, if◌then◌else◌}
+use Rattle.std.proofs.Common.{◌≡◌, ◌≢◌, ◌==◌, ◌&&◌, ◌+◌, ◌<◌, ◌≤◌, ◌∙◌, ℕ, Bool, true, false, true≢false, List, [], Option, Some, None, refl, sym, ap, ap₂, subst, map, option_map, length, drop, get_or, arith, if◌then◌else◌}
 use Rattle.std.proofs.lemmas.Grind.{common_steps}
 use Rattle.std.proofs.lemmas.Bool.Decides.{nat_tests}
 use Rattle.std.proofs.lemmas.List.{drop_more, length-map as mapped-length}
@@ -22,7 +22,6 @@ use Rattle.am_bank.specs.Trees.{tree}
 use Rattle.am_sharing.specs.Matching.{IsMatchedShared}
 use Rattle.am_sharing.specs.Pairs.{pairs_at, answer_at, answer_bound}
 use Rattle.am_sharing.specs.Terms.{term_at, terms_at}
-use Rattle.am_sharing.specs.Bound.{bound}
 use Rattle.am_sharing.proofs.Nodes.{term_at-is, same-id, number-same, bound-at}
 use Rattle.am_sharing.proofs.Compared.{length-map}
 use Rattle.am_sharing.proofs.Pairs.{held-is, insert-is, insert-bound, bindings-are}

@@ -1,5 +1,5 @@
 -- The term of an id is that of its node.
-use Rattle.std.proofs.Common.{◌≡◌, ◌==◌, ◌+◌, ◌-◌, ◌<◌, ◌≤◌, ◌∙◌, ℕ, zero, suc, Bool, true, false, List, [], ◌∷◌, Some, Vec, refl, sym, ap, subst, map, length, slice_get, take, drop, length-drop, get_or, arith, IsTrue}
+use Rattle.std.proofs.Common.{◌≡◌, ◌==◌, ◌+◌, ◌-◌, ◌<◌, ◌≤◌, ◌∙◌, ℕ, zero, suc, List, [], ◌∷◌, Some, Vec, refl, sym, ap, map, length, slice_get, take, drop, length-drop, get_or, arith, IsTrue}
 use Rattle.std.proofs.lemmas.List.{take_all}
 use Rattle.std.specs.declared.alloc.Global.{Global}
 use Rattle.std.proofs.lemmas.Bool.Decides.{nat_tests}
@@ -12,7 +12,7 @@ use Rattle.am_bank.specs.declared.id.TermId.{TermId}
 use Rattle.am_bank.specs.declared.node.Node.{Node}
 use Rattle.am_bank.specs.declared.node.Node.TheVariants as node
 use Rattle.am_bank.specs.Node.{Shared, numbers, shared}
-use Rattle.am_bank.specs.Bank.{IsBank, arguments}
+use Rattle.am_bank.specs.Bank.{IsBank}
 use Rattle.am_bank.specs.Trees.{tree}
 use Rattle.am_bank.proofs.Trees.{tree-there}
 use Rattle.am_bank.proofs.EqualTrees.{tree-Var, tree-In, tree-App, equal_trees}

@@ -1,18 +1,16 @@
 -- Numbers with ids, and the numbers with the ids' terms.
-use Rattle.std.proofs.Common.{◌≡◌, ◌==◌, ◌+◌, ◌<◌, ◌≤◌, ◌∙◌, ℕ, Bool, true, false, List, [], ◌∷◌, Option, Some, None, refl, sym, ap, ap₂, map, length, drop, get_or, max, arith, nat_lt, option_map, if◌then◌else◌}
+use Rattle.std.proofs.Common.{◌≡◌, ◌==◌, ◌+◌, ◌<◌, ◌≤◌, ℕ, Bool, true, false, List, [], ◌∷◌, Option, Some, refl, ap, ap₂, map, length, drop, get_or, max, arith, nat_lt, option_map, if◌then◌else◌}
 use Rattle.std.proofs.lemmas.Grind.{common_steps}
 use Rattle.std.proofs.lemmas.Bool.Decides.{nat_tests}
 use Rattle.std.proofs.lemmas.List.{drop_more}
 use Rattle.am_term.specs.declared.term.Term.{Term}
-use Rattle.am_term.specs.Same.{same_term}
 use Rattle.am_unify.specs.Matching.{held}
 use Rattle.am_unify.specs.Substitution.{insert_binding}
 use Rattle.am_bank.specs.declared.id.TermId.{TermId}
-use Rattle.am_bank.specs.declared.shared.SharedSubst.{SharedSubst}
 use Rattle.am_bank.specs.Node.{Shared}
 use Rattle.am_bank.specs.Bank.{IsBank}
 use Rattle.am_bank.specs.Trees.{tree}
-use Rattle.am_bank.specs.Stands.{all_there, bindings_of}
+use Rattle.am_bank.specs.Stands.{all_there}
 use Rattle.am_sharing.specs.Terms.{term_at}
 use Rattle.am_sharing.specs.Pairs.{pairs_at, pairs_bound, held_id, insert_id}
 use Rattle.am_sharing.proofs.Nodes.{same-id, tree-is}

@@ -1,19 +1,17 @@
 -- The sorts of ids' terms, by a table.
-use Rattle.std.proofs.Common.{◌≡◌, ◌≢◌, ◌∙◌, ◌+◌, ◌&&◌, ◌<◌, ◌≤◌, ◌++◌, ℕ, zero, suc, Bool, List, [], ◌∷◌, Option, true, false, refl, sym, ap, ap₂, subst, map, length, drop, get_or, arith, slice_get, nat_lt, Some, None, length-append}
+use Rattle.std.proofs.Common.{◌≡◌, ◌≢◌, ◌∙◌, ◌+◌, ◌&&◌, ◌<◌, ◌≤◌, ◌++◌, ℕ, zero, suc, Bool, List, [], ◌∷◌, Option, true, false, refl, sym, ap, ap₂, subst, length, drop, get_or, arith, slice_get, nat_lt, None, length-append}
 use Rattle.std.proofs.lemmas.Grind.{common_steps}
 use Rattle.std.proofs.lemmas.Bool.Decides.{nat_tests}
 use Rattle.std.proofs.lemmas.List.{drop_more, get_or_append_left}
 use Rattle.std.proofs.Math.Seq.{get_or-append_seam}
 use Rattle.am_term.specs.declared.id.SortId.{SortId}
 use Rattle.am_term.specs.declared.signature.Signature.{Signature}
-use Rattle.am_term.specs.declared.term.Term.{Term}
 use Rattle.am_term.specs.Sorting.{sort_of, sorts_of, sort_step, fit_places, fits_place, result_at, sort_of-Var, sort_of-In, sort_of-App}
 use Rattle.am_bank.specs.declared.id.TermId.{TermId}
 use Rattle.am_bank.specs.declared.node.Node.{Node}
 use Rattle.am_bank.specs.declared.node.Node.TheVariants as node
 use Rattle.am_bank.specs.Node.{Shared}
 use Rattle.am_bank.specs.Bank.{Grows}
-use Rattle.am_bank.specs.Trees.{tree}
 use Rattle.am_bank.proofs.Trees.{tree-there}
 use Rattle.am_bank.proofs.Stays.{tree-stays}
 use Rattle.am_sharing.specs.Terms.{term_at, terms_at, node_term}

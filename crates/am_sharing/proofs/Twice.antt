@@ -1,5 +1,5 @@
 -- For tests: two arguments that are one id.
-use Rattle.std.proofs.Common.{◌≡◌, ◌++◌, ◌<◌, ◌∙◌, ℕ, zero, suc, List, [], ◌∷◌, Some, ap, subst, slice_get, arith}
+use Rattle.std.proofs.Common.{◌≡◌, ◌<◌, ℕ, zero, suc, List, [], ◌∷◌, Some, subst, slice_get, arith}
 use Rattle.std.proofs.lemmas.Grind.{common_steps}
 use Rattle.am_bank.specs.declared.id.TermId.{TermId}
 use Rattle.am_bank.specs.Node.{numbers}

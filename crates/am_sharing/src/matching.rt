@@ -96,7 +96,15 @@ fn extended(
                 if f.0 != g.0 {
                     return Ok(None);
                 }
-                extended_all(alloc, ctx, bank, table, args.as_slice(), others.as_slice(), found)
+                extended_all(
+                    alloc,
+                    ctx,
+                    bank,
+                    table,
+                    args.as_slice(),
+                    others.as_slice(),
+                    found,
+                )
             }
         },
     }

@@ -1,4 +1,4 @@
-use Rattle.std.proofs.Common.{◌∙◌, ◌+◌, sym, ap, arith}
+use Rattle.std.proofs.Common.{◌∙◌, ◌+◌, sym, ap}
 use Rattle.am_bank.specs.declared.id.TermId.{TermId}
 use Rattle.std.specs.Prelude.{List}
 use Rattle.am_sharing.specs.Terms.{some_reaches, exceeds_all}
