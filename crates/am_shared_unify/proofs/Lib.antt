@@ -1,0 +1,5 @@
+pub mod Becoming
+pub mod Grown
+pub mod Heads
+pub mod Solved
+pub mod Standing

@@ -1,0 +1,4 @@
+pub mod Opening
+pub mod Sides
+pub mod Tables
+pub mod Unifying
