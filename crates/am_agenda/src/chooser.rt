@@ -13,8 +13,10 @@ pub trait Chooser: Drop {
         requires { rows.now ≢ [] }
         ensures within { result < length rows.now }
         ensures picked { result ≡ pick_after self.old [] rows.now }
-        ensures after { (past : List (List WaitRow)) (list : List WaitRow) → pick_after self.new past list ≡ pick_after self.old (rows.now ∷ past) list };
+        ensures after { (past : List (List WaitRow)) (list : List WaitRow)
+            → pick_after self.new past list ≡ pick_after self.old (rows.now ∷ past) list };
 
     /// A place is one of the list's, where it has any.
-    ghost below: { (c : Self) (past : List (List WaitRow)) (list : List WaitRow) → list ≢ [] → pick_after c past list < length list };
+    ghost below: { (c : Self) (past : List (List WaitRow)) (list : List WaitRow) → list ≢ []
+        → pick_after c past list < length list };
 }

@@ -9,7 +9,7 @@ use Rattle.am_term.specs.declared.term.Term.TheVariants as term
 use Rattle.am_bank.specs.declared.id.TermId.{TermId}
 use Rattle.am_bank.specs.declared.node.Node.{Node}
 use Rattle.am_bank.specs.declared.node.Node.TheVariants as node
-use Rattle.am_bank.specs.Node.{Shared, App, numbers, shared}
+use Rattle.am_bank.specs.Node.{Shared, App, numbers, node_shared}
 use Rattle.am_bank.specs.Bank.{IsBank, Grows, arguments}
 use Rattle.am_bank.specs.Trees.{tree}
 use Rattle.am_bank.proofs.Trees.{trees-grown, tree-grown, tree-below}
@@ -66,17 +66,17 @@ more-built old new ids ids2 id ts k t grows are is within at pushed =
 
 -- an argument of a node is a smaller id
 pub argument-smaller : (ns : List Shared) (i : ℕ) (x : Node) (f : SymId) (args : Vec TermId Global) (items : List TermId) (k : ℕ) (d : TermId) →
-    IsBank ns → slice_get ns i ≡ Some (shared x) → x ≡ node.App f args → items ≡ args.items → k < length items → (get_or items k d).0 < i
+    IsBank ns → slice_get ns i ≡ Some (node_shared x) → x ≡ node.App f args → items ≡ args.items → k < length items → (get_or items k d).0 < i
 argument-smaller ns i x f args items k d bank at is same within =
-    bank.below i (shared x) at k (get_or items k d).0
-    (ap (λ (y : Node). slice_get (arguments (shared y)) k) is
+    bank.below i (node_shared x) at k (get_or items k d).0
+    (ap (λ (y : Node). slice_get (arguments (node_shared y)) k) is
     ∙ ap (λ (xs : List TermId). slice_get (numbers xs) k) (sym same)
     ∙ slice_get-map (λ (a : TermId). a.0) items k ∙ rw (slice_get-get_or items k d within) refl)
 
 -- a symbol's term is read once all arguments are
 pub read-App : (ns : List Shared) (i : ℕ) (x : Node) (f : SymId) (args : Vec TermId Global) (items : List TermId) (k : ℕ) (made : List Term) →
-    IsBank ns → slice_get ns i ≡ Some (shared x) → x ≡ node.App f args → items ≡ args.items → length items ≤ k →
+    IsBank ns → slice_get ns i ≡ Some (node_shared x) → x ≡ node.App f args → items ≡ args.items → length items ≤ k →
     map (tree ns) (numbers (take k items)) ≡ map Some made → tree ns i ≡ Some (term.App f made)
 read-App ns i x f args items k made bank at is same end are =
-    built-App ns bank i f (numbers items) made (at ∙ ap (λ (y : Node). Some (shared y)) is ∙ ap (λ (xs : List TermId). Some (App f (numbers xs))) (sym same))
+    built-App ns bank i f (numbers items) made (at ∙ ap (λ (y : Node). Some (node_shared y)) is ∙ ap (λ (xs : List TermId). Some (App f (numbers xs))) (sym same))
     (ap (λ (xs : List TermId). map (tree ns) (numbers xs)) (sym (take_all k items end)) ∙ are)

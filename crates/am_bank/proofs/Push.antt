@@ -2,7 +2,7 @@
 use Rattle.std.proofs.Common.{◌≡◌, ◌||◌, ℕ, zero, suc, Bool, true, false, refl, List, [], ◌∷◌, ◌++◌, ap, sym, ◌∙◌, subst, map, length, Some, ◌⊎◌, inl, inr, slice_get, cond, true≢false}
 use Rattle.std.specs.List.{list_any}
 use Rattle.std.proofs.lemmas.Option.{slice_get-map}
-use Rattle.am_bank.specs.Node.{Shared, shared}
+use Rattle.am_bank.specs.Node.{Shared, node_shared}
 use Rattle.am_bank.specs.Bank.{ArgsBelow, IsBank}
 use Rattle.am_bank.specs.declared.node.Node.{Node}
 use Rattle.indexmap.specs.IndexSet.{insert_key}
@@ -19,10 +19,10 @@ push_get (y ∷ ys) n zero x e = inl e
 push_get (y ∷ ys) n (suc i) x e = elim (push_get ys n i x e) [ inl h ↦ inl h | inr h ↦ inr (ap suc h.0, h.1) ]
 
 -- a key that no test found is not there
-not_there : (k : Node) (ks : List Node) (i : ℕ) → list_any (same k) ks ≡ false → slice_get (map shared ks) i ≡ Some (shared k) → ⊥
+not_there : (k : Node) (ks : List Node) (i : ℕ) → list_any (same k) ks ≡ false → slice_get (map node_shared ks) i ≡ Some (node_shared k) → ⊥
 not_there k [] zero none e = cc
 not_there k [] (suc i) none e = cc
-not_there k (y ∷ ys) zero none e = let t : same k y ≡ true = same_of k y (sym (some_is (shared y) (shared k) e)) in or_false (same k y) (list_any (same k) ys) t none
+not_there k (y ∷ ys) zero none e = let t : same k y ≡ true = same_of k y (sym (some_is (node_shared y) (node_shared k) e)) in or_false (same k y) (list_any (same k) ys) t none
   where
     or_false : (a b : Bool) → a ≡ true → (a || b) ≡ false → ⊥
     or_false true b e none = absurd (true≢false none)
@@ -52,11 +52,11 @@ bank_push ns n bank fresh below = record {
   ];
 }
 
-map-push : (ks : List Node) (k : Node) → map shared (ks ++ k ∷ []) ≡ map shared ks ++ shared k ∷ []
+map-push : (ks : List Node) (k : Node) → map node_shared (ks ++ k ∷ []) ≡ map node_shared ks ++ node_shared k ∷ []
 map-push [] k = refl
-map-push (y ∷ ys) k = ap (λ r. shared y ∷ r) (map-push ys k)
+map-push (y ∷ ys) k = ap (λ r. node_shared y ∷ r) (map-push ys k)
 
-length-nodes : (ks : List Node) → length (map shared ks) ≡ length ks
+length-nodes : (ks : List Node) → length (map node_shared ks) ≡ length ks
 length-nodes [] = refl
 length-nodes (y ∷ ys) = ap suc (length-nodes ys)
 
@@ -65,28 +65,28 @@ pub data Inserted (old : List Shared) (n : Shared) (new : List Shared) : Type 0 
   was_there : new ≡ old → Inserted old n new
   is_new : new ≡ old ++ n ∷ [] → ((i : ℕ) → slice_get old i ≡ Some n → ⊥) → Inserted old n new
 
-pub inserted : (ks : List Node) (k : Node) (new : List Node) → new ≡ insert_key same ks k → Inserted (map shared ks) (shared k) (map shared new)
+pub inserted : (ks : List Node) (k : Node) (new : List Node) → new ≡ insert_key same ks k → Inserted (map node_shared ks) (node_shared k) (map node_shared new)
 inserted ks k new e = by_test (list_any (same k) ks) refl (e)
   where
-    by_test : (b : Bool) → list_any (same k) ks ≡ b → new ≡ cond (list_any (same k) ks) ks (ks ++ k ∷ []) → Inserted (map shared ks) (shared k) (map shared new)
-    by_test true t e = was_there (ap (map shared) (e ∙ rw t refl))
-    by_test false t e = is_new (ap (map shared) (e ∙ rw t refl) ∙ map-push ks k) (λ i at. not_there k ks i t at)
+    by_test : (b : Bool) → list_any (same k) ks ≡ b → new ≡ cond (list_any (same k) ks) ks (ks ++ k ∷ []) → Inserted (map node_shared ks) (node_shared k) (map node_shared new)
+    by_test true t e = was_there (ap (map node_shared) (e ∙ rw t refl))
+    by_test false t e = is_new (ap (map node_shared) (e ∙ rw t refl) ∙ map-push ks k) (λ i at. not_there k ks i t at)
 
 -- a bank stays one
-pub stays_bank : (ks : List Node) (k : Node) (new : List Node) → IsBank (map shared ks) → ArgsBelow (length (map shared ks)) (shared k) → new ≡ insert_key same ks k → IsBank (map shared new)
+pub stays_bank : (ks : List Node) (k : Node) (new : List Node) → IsBank (map node_shared ks) → ArgsBelow (length (map node_shared ks)) (node_shared k) → new ≡ insert_key same ks k → IsBank (map node_shared new)
 stays_bank ks k new bank below e = elim (inserted ks k new e) [
   | was_there h ↦ subst IsBank (sym h) bank
-  | is_new h fresh ↦ subst IsBank (sym h) (bank_push (map shared ks) (shared k) bank fresh below)
+  | is_new h fresh ↦ subst IsBank (sym h) (bank_push (map node_shared ks) (node_shared k) bank fresh below)
 ]
 
 -- what stands at the place of a key that is equal
-pub stored_at : (new : List Node) (k there : Node) (i : ℕ) → slice_get new i ≡ Some there → same k there ≡ true → slice_get (map shared new) i ≡ Some (shared k)
-stored_at new k there i at is = slice_get-map shared new i ∙ rw at (ap Some (sym (same_is k there is)))
+pub stored_at : (new : List Node) (k there : Node) (i : ℕ) → slice_get new i ≡ Some there → same k there ≡ true → slice_get (map node_shared new) i ≡ Some (node_shared k)
+stored_at new k there i at is = slice_get-map node_shared new i ∙ rw at (ap Some (sym (same_is k there is)))
 
 -- the old list, or one more with the place of the new one
-pub grown : (ks : List Node) (k : Node) (new : List Node) (i : ℕ) → new ≡ insert_key same ks k → slice_get (map shared new) i ≡ Some (shared k)
-    → (map shared new ≡ map shared ks) ⊎ ((map shared new ≡ map shared ks ++ shared k ∷ []) × (i ≡ length (map shared ks)))
+pub grown : (ks : List Node) (k : Node) (new : List Node) (i : ℕ) → new ≡ insert_key same ks k → slice_get (map node_shared new) i ≡ Some (node_shared k)
+    → (map node_shared new ≡ map node_shared ks) ⊎ ((map node_shared new ≡ map node_shared ks ++ node_shared k ∷ []) × (i ≡ length (map node_shared ks)))
 grown ks k new i e at = elim (inserted ks k new e) [
   | was_there h ↦ inl h
-  | is_new h fresh ↦ inr (h, elim (push_get (map shared ks) (shared k) i (shared k) (rw h at at)) [ inl g ↦ absurd (fresh i g) | inr g ↦ g.0 ])
+  | is_new h fresh ↦ inr (h, elim (push_get (map node_shared ks) (node_shared k) i (node_shared k) (rw h at at)) [ inl g ↦ absurd (fresh i g) | inr g ↦ g.0 ])
 ]

@@ -3,8 +3,8 @@ use Rattle.std.proofs.Common.{◌≡◌, Bool, true, refl, List, [], ◌∷◌, 
 use Rattle.std.proofs.lemmas.Bool.Decides.{nat_tests}
 use Rattle.std.specs.Prelude.{nat_eq}
 use Rattle.std.specs.Cmp.Lexicographic.{pointwise}
-use Rattle.am_bank.specs.Node.{shared, numbers}
-use Rattle.am_bank.specs.Input.{written}
+use Rattle.am_bank.specs.Node.{node_shared, numbers}
+use Rattle.am_bank.specs.Input.{hashed}
 use Rattle.am_bank.specs.declared.id.TermId.{TermId}
 use Rattle.am_bank.specs.declared.node.Node.{Node}
 use Rattle.am_bank.specs.declared.node.Node.TheVariants.{Var, In, App}
@@ -34,7 +34,7 @@ ids_are [] (y ∷ ys) e = cc
 ids_are (x ∷ xs) [] e = cc
 ids_are (x ∷ xs) (y ∷ ys) e = grind (arith, nat_tests, ids_are xs ys)
 
-pub same_is : (a b : Node) → same a b ≡ true → shared a ≡ shared b
+pub same_is : (a b : Node) → same a b ≡ true → node_shared a ≡ node_shared b
 same_is (Var n s) (Var m t) e = grind (arith, nat_tests)
 same_is (In k) (In l) e = grind (arith, nat_tests)
 same_is (App f xs) (App g ys) e = let h = numbers_are xs.items ys.items in grind (arith, nat_tests, h)
@@ -45,7 +45,7 @@ same_is (In k) (App g ys) e = cc
 same_is (App f xs) (Var m t) e = cc
 same_is (App f xs) (In l) e = cc
 
-pub same_of : (a b : Node) → shared a ≡ shared b → same a b ≡ true
+pub same_of : (a b : Node) → node_shared a ≡ node_shared b → same a b ≡ true
 same_of (Var n s) (Var m t) e = grind (arith, nat_tests)
 same_of (In k) (In l) e = grind (arith, nat_tests)
 same_of (App f xs) (App g ys) e = let h = numbers_of xs.items ys.items in grind (arith, nat_tests, h)
@@ -56,7 +56,7 @@ same_of (In k) (App g ys) e = cc
 same_of (App f xs) (Var m t) e = cc
 same_of (App f xs) (In l) e = cc
 
-pub same_written : (a b : Node) → same a b ≡ true → written a ≡ written b
+pub same_written : (a b : Node) → same a b ≡ true → hashed a ≡ hashed b
 same_written (Var n s) (Var m t) e = grind (arith, nat_tests)
 same_written (In k) (In l) e = grind (arith, nat_tests)
 same_written (App f xs) (App g ys) e = let h = ids_are xs.items ys.items in grind (arith, nat_tests, h)

@@ -5,7 +5,7 @@ use Rattle.am_bank.specs.declared.id.TermId.{TermId}
 use Rattle.am_bank.specs.declared.node.Node.{Node}
 use Rattle.am_bank.specs.declared.node.Node.TheVariants.{Var, In, App}
 
-abbrev pub written : Node → List (List ℕ)
-written (Var n sort) = fed.u8 0 ++ fed.u32 n ++ fed.u32 sort.0
-written (In k) = fed.u8 1 ++ fed.u32 k
-written (App f args) = fed.u8 2 ++ fed.u32 f.0 ++ fed.slice (λ (a : TermId). fed.u64 a.0) args.items
+abbrev pub hashed : Node → List (List ℕ)
+hashed (Var n sort) = fed.u8 0 ++ fed.u32 n ++ fed.u32 sort.0
+hashed (In k) = fed.u8 1 ++ fed.u32 k
+hashed (App f args) = fed.u8 2 ++ fed.u32 f.0 ++ fed.slice (λ (a : TermId). fed.u64 a.0) args.items

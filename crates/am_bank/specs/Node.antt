@@ -17,7 +17,7 @@ abbrev pub numbers : List TermId → List ℕ
 numbers = map (λ (a : TermId). a.0)
 
 -- a node without where its list is held
-abbrev pub shared : Node → Shared
-shared (node.Var n sort) = Var n sort
-shared (node.In k) = In k
-shared (node.App f args) = App f (numbers args.items)
+abbrev pub node_shared : Node → Shared
+node_shared (node.Var n sort) = Var n sort
+node_shared (node.In k) = In k
+node_shared (node.App f args) = App f (numbers args.items)

@@ -1,5 +1,5 @@
 ghost use Rattle.std.specs.Prelude.{◌≡◌, ◌<◌, ◌≤◌, ◌++◌, ◌⊎◌, [], ◌∷◌, Some, IfOk, OnErr, length, map, slice_get};
-ghost use Rattle.am_bank.specs.Node.{numbers, shared};
+ghost use Rattle.am_bank.specs.Node.{node_shared, numbers};
 ghost use Rattle.am_bank.specs.Bank.{ArgsBelow, IsBank, Grows};
 ghost use Rattle.am_bank.specs.Trees.{tree};
 
@@ -20,14 +20,14 @@ pub struct Bank {
 
 impl Model for Bank {
     ghost use Rattle.std.specs.Prelude.{List, map};
-    ghost use Rattle.am_bank.specs.Node.{Shared, shared};
+    ghost use Rattle.am_bank.specs.Node.{Shared, node_shared};
     ghost use Rattle.am_bank.specs.Bank.{IsBank};
 
     ghost Value = { List Shared };
 
-    ghost view = { λ b. map shared b.nodes.keys };
+    ghost view = { λ b. map node_shared b.nodes.keys };
 
-    ghost invariant = { λ b. IsBank (map shared b.nodes.keys) };
+    ghost invariant = { λ b. IsBank (map node_shared b.nodes.keys) };
 }
 
 impl Bank {
@@ -51,7 +51,7 @@ impl Bank {
     /// The node of an id.
     pub fn node(&self, id: TermId) -> &Node
         requires { id.0 < length self.now }
-        ensures node { slice_get self.now id.0 ≡ Some (shared result.now) }
+        ensures node { slice_get self.now id.0 ≡ Some (node_shared result.now) }
         ensures bank { IsBank self.now }
     {
         &self.nodes[id.0 as usize]
@@ -61,10 +61,11 @@ impl Bank {
     /// others. After a refusal the bank is as it was.
     #[tactic(auto, using(crate::proofs::Built::interned))]
     pub fn intern(&mut self, node: Node) -> Result<TermId, NoMemory>
-        requires { ArgsBelow (length self.old) (shared node) }
-        ensures there { IfOk result (λ id. slice_get self.new id.0 ≡ Some (shared node)) }
+        requires { ArgsBelow (length self.old) (node_shared node) }
+        ensures there { IfOk result (λ id. slice_get self.new id.0 ≡ Some (node_shared node)) }
         ensures within { IfOk result (λ id. id.0 < length self.new) }
-        ensures nodes { IfOk result (λ id. (self.new ≡ self.old) ⊎ ((self.new ≡ self.old ++ shared node ∷ []) × (id.0 ≡ length self.old))) }
+        ensures nodes { IfOk result (λ id. (self.new ≡ self.old) ⊎ ((self.new ≡ self.old ++ node_shared node ∷ [])
+            × (id.0 ≡ length self.old))) }
         ensures err { OnErr result (self.new ≡ self.old) }
         ensures grows { Grows self.old self.new }
         ensures longer { length self.old ≤ length self.new }

@@ -11,10 +11,10 @@ pub enum Node {
 }
 
 impl Hash for Node {
-    ghost use Rattle.am_bank.specs.Input.{written};
+    ghost use Rattle.am_bank.specs.Input.{hashed};
     ghost use Rattle.am_bank.specs.Equal.{same_written};
 
-    ghost hash_input = { written };
+    ghost hash_input = { hashed };
 
     ghost respects_eq = { same_written };
 

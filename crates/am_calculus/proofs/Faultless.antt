@@ -59,7 +59,7 @@ same_clause-refl c = and_both (same_literals c.literals c.literals) (same_answer
 abbrev with_parts : List Literal → Option (List Term) → Clause
 with_parts ls o = record { literals = ls; answer = o }
 
-same_clause-sound : (c d : Clause) → same_clause c d ≡ true → c ≡ d
+pub same_clause-sound : (c d : Clause) → same_clause c d ≡ true → c ≡ d
 same_clause-sound c d e =
     ap (λ ls. with_parts ls c.answer) (same_literals-sound c.literals d.literals (and_left (same_literals c.literals d.literals) (same_answer c.answer d.answer) e))
     ∙ ap (with_parts d.literals) (same_answer-sound c.answer d.answer (and_right (same_literals c.literals d.literals) (same_answer c.answer d.answer) e))

@@ -1,6 +1,11 @@
 pub mod Bindings
 pub mod Faultless
+pub mod Judging
 pub mod Lists
+pub mod NodeCounts
+pub mod Outgrown
+pub mod PartSizes
+pub mod PartsBound
 pub mod Proved
 pub mod Ruling
 pub mod SortedInstances

@@ -35,6 +35,35 @@ module _ {A : Type 0} (test : A → Bool) where
   any-with xs zero x new e t = refl
   any-with xs (suc i) x new e t = any-set xs i x new e t
 
+  any-set-other : (xs : List A) (i : ℕ) (x new : A) → slice_get xs i ≡ Some x → list_any test xs ≡ true → (test x ≡ true) ⊎ (list_any test (set xs i new) ≡ true)
+  any-set-other [] i x new e t = absurd cc
+  any-set-other (y ∷ ys) zero x new e t = let one : y ≡ x = cc in elim (or_cases (test y) (list_any test ys) t) [
+    | inl a ↦ inl (subst (λ z. test z ≡ true) one a)
+    | inr b ↦ inr (or_right (test new) (list_any test ys) b)
+  ]
+  any-set-other (y ∷ ys) (suc i) x new e t = elim (or_cases (test y) (list_any test ys) t) [
+    | inl a ↦ inr (or_left (test y) (list_any test (set ys i new)) a)
+    | inr b ↦ elim (any-set-other ys i x new e b) [
+      | inl c ↦ inl c
+      | inr c ↦ inr (or_right (test y) (list_any test (set ys i new)) c)
+    ]
+  ]
+
+  any-set-new : (xs : List A) (i : ℕ) (x new : A) → slice_get xs i ≡ Some x → test new ≡ true → list_any test (set xs i new) ≡ true
+  any-set-new [] i x new e t = absurd cc
+  any-set-new (y ∷ ys) zero x new e t = or_left (test new) (list_any test ys) t
+  any-set-new (y ∷ ys) (suc i) x new e t = or_right (test y) (list_any test (set ys i new)) (any-set-new ys i x new e t)
+
+  -- some member passes: the one that another comes in the place of, or one of those then
+  pub any-other : (xs : List A) (i : ℕ) (x new : A) → member xs i ≡ Some x → list_any test xs ≡ true → (test x ≡ true) ⊎ (list_any test (with_member xs i new) ≡ true)
+  any-other xs zero x new e t = absurd cc
+  any-other xs (suc i) x new e t = any-set-other xs i x new e t
+
+  -- another member that passes
+  pub any-new : (xs : List A) (i : ℕ) (x new : A) → member xs i ≡ Some x → test new ≡ true → list_any test (with_member xs i new) ≡ true
+  any-new xs zero x new e t = absurd cc
+  any-new xs (suc i) x new e t = any-set-new xs i x new e t
+
 get-map : {A B : Type 0} (f : A → B) (xs : List A) (i : ℕ) → slice_get (map f xs) i ≡ option_map f (slice_get xs i)
 get-map f [] i = refl
 get-map f (x ∷ xs) zero = refl

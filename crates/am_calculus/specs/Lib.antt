@@ -1,4 +1,6 @@
 pub mod Asked
 pub mod Faults
 pub mod Named
+pub mod Sizes
 pub mod Starts
+pub mod Unmade

@@ -42,7 +42,7 @@ pub fn bind_all(alloc: Global, terms: &[Term], with: &[Term]) -> Result<Items<Te
 }
 
 #[tactic(auto, using(crate::proofs::Bindings::binding))]
-fn bind_atom(alloc: Global, atom: &Atom, with: &[Term]) -> Result<Atom, NoMemory>
+pub fn bind_atom(alloc: Global, atom: &Atom, with: &[Term]) -> Result<Atom, NoMemory>
     ensures { IfOk result (λ a. a ≡ instance_atom with.now atom.now) }
 {
     match atom {

@@ -1,12 +1,13 @@
 ghost use Rattle.std.specs.Prelude.{◌≡◌, IfOk, option_copied, option_and_then};
-ghost use Rattle.am_calculus.specs.Faults.{first_fault};
+ghost use Rattle.am_calculus.specs.Faults.{fault_of_one, fault_of_two, first_fault};
+ghost use Rattle.am_calculus.specs.Named.{alone_of as one_named, paired_of as two_named};
 ghost use Rattle.am_calculus.specs.Starts.{sources_in};
 ghost use Rattle.am_clause.specs.Steps.{clause_at};
 ghost use Rattle.am_term.specs.Place.{member};
 
 use crate::fault::StepFault;
 use crate::faulting::{fault_alone, fault_paired, fault_start};
-use crate::named::{Alone, Paired};
+use crate::named::{alone_of, paired_of};
 use am_clause::{Clause, Row, Rule};
 use am_term::{Ctx, NoMemory};
 use sqlite_items::Items;
@@ -58,6 +59,44 @@ fn of_axiom<'a>(axioms: &'a [Items<Clause>], at: u32, clause: u32) -> Option<&'a
     }
 }
 
+// The first fault of a row by a rule with one parent, the row of that number.
+#[tactic(auto, using(crate::proofs::Ruling::stepping))]
+fn one_parent(
+    alloc: Global,
+    ctx: &Ctx,
+    rows: &[Row],
+    p: u32,
+    row: &Row,
+) -> Result<Option<StepFault>, NoMemory>
+    ensures { IfOk result (λ f. f ≡ fault_of_one ctx.now.sig.now ctx.now.ins.now (one_named row.now.rule)
+        (clause_at rows.now p) row.now) }
+{
+    fault_alone(alloc, ctx, alone_of(&row.rule), row_clause(rows, p), row)
+}
+
+// The first fault of a row by a rule with two parents, the rows of these numbers.
+#[tactic(auto, using(crate::proofs::Ruling::stepping))]
+fn two_parents(
+    alloc: Global,
+    ctx: &Ctx,
+    rows: &[Row],
+    p: u32,
+    q: u32,
+    row: &Row,
+) -> Result<Option<StepFault>, NoMemory>
+    ensures { IfOk result (λ f. f ≡ fault_of_two ctx.now.sig.now ctx.now.ins.now (two_named row.now.rule)
+        (clause_at rows.now p) (clause_at rows.now q) row.now) }
+{
+    fault_paired(
+        alloc,
+        ctx,
+        paired_of(&row.rule),
+        row_clause(rows, p),
+        row_clause(rows, q),
+        row,
+    )
+}
+
 /// The first fault of a row as a step after the earlier rows. None exactly where there is none.
 #[tactic(auto, using(crate::proofs::Ruling::stepping))]
 pub fn step_fault(
@@ -67,7 +106,8 @@ pub fn step_fault(
     rows: &[Row],
     row: &Row,
 ) -> Result<Option<StepFault>, NoMemory>
-    ensures { IfOk result (λ f. f ≡ first_fault ctx.now.sig.now ctx.now.ins.now (sources_in starts.now.axioms.now starts.now.goal.now starts.now.givens.now) rows.now row.now) }
+    ensures { IfOk result (λ f. f ≡ first_fault ctx.now.sig.now ctx.now.ins.now
+        (sources_in starts.now.axioms.now starts.now.goal.now starts.now.givens.now) rows.now row.now) }
 {
     match &row.rule {
         Rule::Axiom { axiom, clause } => {
@@ -75,72 +115,11 @@ pub fn step_fault(
         }
         Rule::Goal => fault_start(alloc, Some(starts.goal), row),
         Rule::Given { k } => fault_start(alloc, numbered(starts.givens, *k), row),
-        Rule::Factor { p, i, j } => {
-            fault_alone(
-                alloc,
-                ctx,
-                Alone::Factor { i: *i, j: *j },
-                row_clause(rows, *p),
-                row,
-            )
-        }
-        Rule::Reflex { p, i } => {
-            fault_alone(
-                alloc,
-                ctx,
-                Alone::Reflex { i: *i },
-                row_clause(rows, *p),
-                row,
-            )
-        }
-        Rule::Resolve { p, i, q, j } => fault_paired(
-            alloc,
-            ctx,
-            Paired::Resolve { i: *i, j: *j },
-            row_clause(rows, *p),
-            row_clause(rows, *q),
-            row,
-        ),
-        Rule::Para {
-            p,
-            j,
-            side,
-            q,
-            i,
-            path,
-        } => fault_paired(
-            alloc,
-            ctx,
-            Paired::Para {
-                j: *j,
-                side: *side,
-                i: *i,
-                path: path.as_slice(),
-            },
-            row_clause(rows, *p),
-            row_clause(rows, *q),
-            row,
-        ),
-        Rule::Rewrite {
-            p,
-            j,
-            side,
-            q,
-            i,
-            path,
-        } => fault_paired(
-            alloc,
-            ctx,
-            Paired::Rewrite {
-                j: *j,
-                side: *side,
-                i: *i,
-                path: path.as_slice(),
-            },
-            row_clause(rows, *p),
-            row_clause(rows, *q),
-            row,
-        ),
-        Rule::Close { p } => fault_alone(alloc, ctx, Alone::Close, row_clause(rows, *p), row),
+        Rule::Factor { p, .. } => one_parent(alloc, ctx, rows, *p, row),
+        Rule::Reflex { p, .. } => one_parent(alloc, ctx, rows, *p, row),
+        Rule::Resolve { p, q, .. } => two_parents(alloc, ctx, rows, *p, *q, row),
+        Rule::Para { p, q, .. } => two_parents(alloc, ctx, rows, *p, *q, row),
+        Rule::Rewrite { p, q, .. } => two_parents(alloc, ctx, rows, *p, *q, row),
+        Rule::Close { p } => one_parent(alloc, ctx, rows, *p, row),
     }
 }

@@ -12,6 +12,8 @@ use crate::named::{
     Alone, Paired, answers_paired, equal_alone, equal_paired, made_alone, made_paired,
     merge_clause, suits_alone, suits_paired,
 };
+use crate::sizing::is_huge;
+use crate::unmade::{unmade_alone, unmade_paired};
 use crate::walking::numbered_row;
 use am_clause::{Clause, Row, clause_variables};
 use am_term::{Ctx, Literal, NoMemory, SortId, Term, fits, same_literal, same_terms, well_sorted};
@@ -21,7 +23,8 @@ use std::alloc::Global;
 /// Whether there is one term for each variable, in order, of a sort that fits the variable's.
 #[tactic(auto, using(crate::proofs::Ruling::faulting))]
 fn binds(ctx: &Ctx, terms: &[Term], variables: &[(u32, SortId)]) -> bool
-    ensures { result ≡ fit_places ctx.now.sig.now (sorts_of ctx.now.sig.now ctx.now.ins.now terms.now) (map (λ (v : Variable). v.1) variables.now) }
+    ensures { result ≡ fit_places ctx.now.sig.now (sorts_of ctx.now.sig.now ctx.now.ins.now terms.now)
+        (map (λ (v : Variable). v.1) variables.now) }
 {
     match terms {
         [] => match variables {
@@ -110,10 +113,14 @@ fn bound_alone(
     first: &[Term],
     row: &Row,
 ) -> Result<Option<StepFault>, NoMemory>
-    ensures { IfOk result (λ f. f ≡ bound_fault ctx.now.sig.now ctx.now.ins.now (alone rule) p.now (Some first.now) row.now) }
+    ensures { IfOk result (λ f. f ≡ bound_fault ctx.now.sig.now ctx.now.ins.now (alone rule) p.now
+        (Some first.now) row.now) }
 {
     if !binds_clause(alloc, ctx, first, p)? {
         return Ok(Some(StepFault::BadBindings));
+    }
+    if is_huge(alloc, p, first)? {
+        return unmade_alone(alloc, rule, p, first, row);
     }
     let c = bind_clause(alloc, p, first)?;
     if !equal_alone(rule, &c) {
@@ -134,10 +141,14 @@ fn bound_paired(
     second: &[Term],
     row: &Row,
 ) -> Result<Option<StepFault>, NoMemory>
-    ensures { IfOk result (λ f. f ≡ bound_fault_of_two ctx.now.sig.now ctx.now.ins.now (paired rule.entry) p.now q.now (Some (first.now, second.now)) row.now) }
+    ensures { IfOk result (λ f. f ≡ bound_fault_of_two ctx.now.sig.now ctx.now.ins.now (paired rule.entry) p.now q.now
+        (Some (first.now, second.now)) row.now) }
 {
     if !(binds_clause(alloc, ctx, first, p)? && binds_clause(alloc, ctx, second, q)?) {
         return Ok(Some(StepFault::BadBindings));
+    }
+    if is_huge(alloc, p, first)? || is_huge(alloc, q, second)? {
+        return unmade_paired(alloc, rule, p, q, first, second, row);
     }
     let c = bind_clause(alloc, p, first)?;
     let d = bind_clause(alloc, q, second)?;
@@ -160,7 +171,8 @@ pub fn fault_alone(
     p: Option<&Clause>,
     row: &Row,
 ) -> Result<Option<StepFault>, NoMemory>
-    ensures { IfOk result (λ f. f ≡ fault_of_one ctx.now.sig.now ctx.now.ins.now (alone rule) (option_copied p.entry) row.now) }
+    ensures { IfOk result (λ f. f ≡ fault_of_one ctx.now.sig.now ctx.now.ins.now (alone rule)
+        (option_copied p.entry) row.now) }
 {
     let Some(p) = p else {
         return Ok(Some(StepFault::NoSuchParent));
@@ -184,7 +196,8 @@ pub fn fault_paired(
     q: Option<&Clause>,
     row: &Row,
 ) -> Result<Option<StepFault>, NoMemory>
-    ensures { IfOk result (λ f. f ≡ fault_of_two ctx.now.sig.now ctx.now.ins.now (paired rule.entry) (option_copied p.entry) (option_copied q.entry) row.now) }
+    ensures { IfOk result (λ f. f ≡ fault_of_two ctx.now.sig.now ctx.now.ins.now (paired rule.entry)
+        (option_copied p.entry) (option_copied q.entry) row.now) }
 {
     let Some(p) = p else {
         return Ok(Some(StepFault::NoSuchParent));

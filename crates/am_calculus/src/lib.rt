@@ -8,6 +8,7 @@
 
 mod binding;
 mod checking;
+mod comparing;
 mod fault;
 mod faulting;
 mod laws;
@@ -15,6 +16,7 @@ mod named;
 mod replacing;
 mod rules;
 mod sizing;
+mod unmade;
 mod walking;
 
 pub use binding::{bind, bind_all, bind_clause};

@@ -1,5 +1,5 @@
 ghost use Rattle.std.specs.Prelude.{◌≡◌, IfOk, option_copied};
-ghost use Rattle.am_calculus.specs.Named.{alone, paired};
+ghost use Rattle.am_calculus.specs.Named.{alone, paired, alone_of as one_named, paired_of as two_named};
 ghost use Rattle.am_clause.specs.Bound.{without_repeats};
 ghost use Rattle.am_clause.specs.Rules.{with_other, shared, para};
 ghost use Rattle.am_term.specs.Place.{member};
@@ -9,7 +9,7 @@ use crate::rules::{
     answers_go, equal_sides, equation_of, literal_at, one_atom, one_sign, one_term, opposite,
     part_of, places, side_in, turn, without,
 };
-use am_clause::{Clause, Side, merge};
+use am_clause::{Clause, Rule, Side, merge};
 use am_term::{Literal, NoMemory, Term};
 use sqlite_items::Items;
 use std::alloc::Global;
@@ -41,6 +41,54 @@ pub enum Paired<'a> {
         i: u32,
         path: &'a [u32],
     },
+}
+
+/// The rule with one parent that a row names. Of other rows one that suits no parent.
+#[tactic(auto, using(crate::proofs::Ruling::ruling))]
+pub fn alone_of(rule: &Rule) -> Alone
+    ensures { alone result ≡ one_named rule.now }
+{
+    match rule {
+        Rule::Factor { i, j, .. } => Alone::Factor { i: *i, j: *j },
+        Rule::Reflex { i, .. } => Alone::Reflex { i: *i },
+        Rule::Close { .. } => Alone::Close,
+        _ => Alone::Reflex { i: 0 },
+    }
+}
+
+/// The rule with two parents that a row names. Of other rows one that suits no parents.
+#[tactic(auto, using(crate::proofs::Ruling::ruling))]
+pub fn paired_of(rule: &Rule) -> Paired
+    ensures { paired result ≡ two_named rule.now }
+{
+    match rule {
+        Rule::Resolve { i, j, .. } => Paired::Resolve { i: *i, j: *j },
+        Rule::Para {
+            j,
+            side,
+            i,
+            path,
+            ..
+        } => Paired::Para {
+            j: *j,
+            side: *side,
+            i: *i,
+            path: path.as_slice(),
+        },
+        Rule::Rewrite {
+            j,
+            side,
+            i,
+            path,
+            ..
+        } => Paired::Rewrite {
+            j: *j,
+            side: *side,
+            i: *i,
+            path: path.as_slice(),
+        },
+        _ => Paired::Resolve { i: 0, j: 0 },
+    }
 }
 
 /// Whether the parent has what the rule names, and of the right kind.

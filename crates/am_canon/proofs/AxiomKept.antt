@@ -41,6 +41,7 @@ module _ (c : Contents) (vs : List Typed) (g : WrittenFormula) (k : IsFaultless 
     pub axiom-faultless : list_any (is_unknown_sort b) (sorts_in vs) ≡ false → list_any (is_symbol_name b) (names_in vs) ≡ false → length b.axioms ≡ length c.axioms → IsFaultless b (decl.Axiom vs g)
     unfolding has_unknown_name is_twice has_bad_sort has_bad_arity has_unbound quantifies is_badly_represented lacks_copy has_bad_fortran_name clashes is_over_limit
     axiom-faultless known apart many = record {
+      allowed = refl;
       known = none_both (list_any (is_unknown_sort b) (sorts_in vs)) (formula_has (axiom_scope b vs) UnknownName g) known (kept.flaws UnknownName ∙ heads-known);
       new = none_both (list_any (is_symbol_name b) (names_in vs)) _ apart (none_right (list_any (is_symbol_name c) (names_in vs)) _ k.new);
       sorted = kept.flaws BadSort ∙ k.sorted;

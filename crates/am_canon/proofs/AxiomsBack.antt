@@ -123,6 +123,7 @@ axioms-back [] c last all t = subst (λ (b : Contents). AreAxiomsOf c [] b) t (n
 axioms-back (decl.Axiom vs g ∷ ds) c last all t =
     one-more c last vs g ds (faultless c (decl.Axiom vs g) t.0) (formula-spelled c vs g t.1 (faultless c (decl.Axiom vs g) t.0)) (axioms-back ds (with_decl c (decl.Axiom vs g)) last all.1 t.2)
 axioms-back (decl.Sort n r copy ∷ ds) c last all t = absurd all.0
+axioms-back (decl.Subsort n s ∷ ds) c last all t = absurd all.0
 axioms-back (decl.Function n args r ∷ ds) c last all t = absurd all.0
 axioms-back (decl.Relation n args ∷ ds) c last all t = absurd all.0
 axioms-back (decl.Literal n s v ∷ ds) c last all t = absurd all.0

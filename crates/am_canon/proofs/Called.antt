@@ -1,5 +1,6 @@
 -- Names of what is called: one more routine, one more listed function, one more copy routine.
-use Rattle.std.proofs.Common.{◌≡◌, ◌∙◌, ℕ, false, Option, Some, None, List, [], ◌∷◌, ◌++◌, map, refl, sym, ap}
+use Rattle.std.proofs.Common.{◌≡◌, ◌∙◌, ℕ, zero, suc, false, Option, Some, None, List, [], ◌∷◌, ◌++◌, map, refl, sym, ap}
+use Rattle.std.specs.Prelude.{slice_get}
 use Rattle.std.specs.List.{flat_map}
 use Rattle.std.specs.Str.{bytes_eq}
 use Rattle.std.proofs.lemmas.List.{map-append}
@@ -8,7 +9,8 @@ use Rattle.am_term.specs.NameLists.{is_among}
 use Rattle.am_syntax.proofs.Among.{none_left}
 use Rattle.am_theory.specs.declared.theory.Routine.{Routine}
 use Rattle.am_theory.specs.declared.theory.FortranFunction.{FortranFunction}
-use Rattle.am_theory.specs.Lookups.{listed_name}
+use Rattle.am_theory.specs.Contents.{of_sort}
+use Rattle.am_theory.specs.Lookups.{known, listed_name}
 use Rattle.am_theory.proofs.Appends.{none_both, names-turned}
 use Rattle.am_canon.proofs.Joined.{none-front, none-behind, none-joined}
 
@@ -63,3 +65,15 @@ pub uncopied : (n : List ℕ) (copies : List (Option (List ℕ))) (copy : Option
 uncopied n copies copy e h =
     ap (is_among n) (flat_map-append listed_name copies (copy ∷ []))
     ∙ none-joined (bytes_eq n) (flat_map listed_name copies) (listed_name copy ++ []) e (unlisted n copy h)
+
+unlike-at : (n : List ℕ) (copies : List (Option (List ℕ))) (k : ℕ) → is_among n (flat_map listed_name copies) ≡ false → IsUnlike n (known (slice_get copies k))
+unlike-at n [] zero e = tt
+unlike-at n [] (suc k) e = tt
+unlike-at n (None ∷ copies) zero e = tt
+unlike-at n (Some w ∷ copies) zero e = none_left (bytes_eq n w) (is_among n (flat_map listed_name copies)) e
+unlike-at n (copy ∷ copies) (suc k) e = unlike-at n copies k (none-behind (bytes_eq n) (listed_name copy) (flat_map listed_name copies) e)
+
+-- a name that is no copy routine's is not that of one of the sorts' copy routines
+pub unlike-copy : (n : List ℕ) (copies : List (Option (List ℕ))) (o : Option ℕ) → is_among n (flat_map listed_name copies) ≡ false → IsUnlike n (of_sort copies o)
+unlike-copy n copies None e = tt
+unlike-copy n copies (Some k) e = unlike-at n copies k e

@@ -162,6 +162,9 @@ unfolding decl_of decl_form
 declaration_again (decl.Sort n r copy) e =
     let s = both (is_name n) (is_rep_with r copy) e in
     sort_again n r copy s.0 s.1
+declaration_again (decl.Subsort n s) e =
+    let t = both (is_name n) (is_name s) e in
+    rw (list-form (word_form (codes "subsort") ∷ word_form n ∷ word_form s ∷ []), word-form (codes "subsort"), name-form n t.0, name-form s t.1) refl
 declaration_again (decl.Function n args r) e =
     let s = both (is_name n) (list_all is_name args && is_name r) e in
     let t = both (list_all is_name args) (is_name r) s.1 in

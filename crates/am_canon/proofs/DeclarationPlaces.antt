@@ -12,7 +12,7 @@ use Rattle.am_syntax.specs.Shapes.{Shape, all_of, some_of, formula_of}
 use Rattle.am_syntax.proofs.PlacesAside.{shape-bare}
 use Rattle.am_theory.specs.declared.declaration.Typed.{Typed}
 use Rattle.am_theory.specs.declared.declaration.Declaration.TheVariants.{Axiom}
-use Rattle.am_theory.specs.Declarations.{◌>>=◌, word_of, number_of, value_of, list_of, if_name, name_of, names_of, typed_in, typed_of, rep_in, rep_by, written_rep_of, sort_decl, function_decl, relation_decl, literal_decl, routine_decl, value_decl, quantified_axiom, plain_axiom, head_in, tail_of, axiom_by, axiom_decl, decl_headed, decl_in, decl_of, version_in, version_of}
+use Rattle.am_theory.specs.Declarations.{◌>>=◌, word_of, number_of, value_of, list_of, if_name, name_of, names_of, typed_in, typed_of, rep_in, rep_by, written_rep_of, sort_decl, subsort_decl, function_decl, relation_decl, literal_decl, routine_decl, value_decl, quantified_axiom, plain_axiom, head_in, tail_of, axiom_by, axiom_decl, decl_headed, decl_in, decl_of, version_in, version_of}
 use Rattle.am_theory.proofs.FormParts.{node_word, word-at, word-List, node_number, number-at, number-List, node_value, value-at, value-List, node_list, list-at, list-Word, list-Number, list-Text, list-List}
 
 pub bare-at : (f : Form) → bare f ≡ record { place = 0; node = node_bare f.node }
@@ -114,6 +114,12 @@ sort_bare (n ∷ r ∷ []) = rw (name-bare n, rep-bare r) refl
 sort_bare (n ∷ r ∷ c ∷ []) = rw (name-bare n, rep-bare r, word-bare c) refl
 sort_bare (n ∷ r ∷ c ∷ f ∷ fs) = refl
 
+subsort_bare : (fs : List Form) → subsort_decl (map bare fs) ≡ subsort_decl fs
+subsort_bare [] = refl
+subsort_bare (n ∷ []) = refl
+subsort_bare (n ∷ s ∷ []) = rw (name-bare n, name-bare s) refl
+subsort_bare (n ∷ s ∷ f ∷ fs) = refl
+
 function_bare : (fs : List Form) → function_decl (map bare fs) ≡ function_decl fs
 function_bare [] = refl
 function_bare (n ∷ []) = refl
@@ -180,7 +186,7 @@ axiom_bare (f ∷ []) = ap (axiom_by (bare f)) (list-bare f) ∙ axiom_by_bare f
 axiom_bare (f ∷ g ∷ fs) = refl
 
 headed_bare : (w : List ℕ) (fs : List Form) → decl_headed w (map bare fs) ≡ decl_headed w fs
-headed_bare w fs = rw (sort_bare fs, function_bare fs, relation_bare fs, literal_bare fs, routine_bare fs, value_bare fs, axiom_bare fs) refl
+headed_bare w fs = rw (sort_bare fs, subsort_bare fs, function_bare fs, relation_bare fs, literal_bare fs, routine_bare fs, value_bare fs, axiom_bare fs) refl
 
 listed_bare : (fs : List Form) → decl_in (map bare fs) ≡ decl_in fs
 listed_bare [] = refl

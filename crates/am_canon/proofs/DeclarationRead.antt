@@ -21,10 +21,10 @@ use Rattle.am_theory.specs.declared.declaration.WrittenRep.{WrittenRep}
 use Rattle.am_theory.specs.declared.declaration.WrittenRep.TheVariants as written
 use Rattle.am_theory.specs.declared.declaration.Typed.{Typed}
 use Rattle.am_theory.specs.declared.declaration.Declaration.{Declaration}
-use Rattle.am_theory.specs.declared.declaration.Declaration.TheVariants.{Sort, Function, Relation, Literal, Routine, Value, Axiom}
+use Rattle.am_theory.specs.declared.declaration.Declaration.TheVariants.{Sort, Subsort, Function, Relation, Literal, Routine, Value, Axiom}
 use Rattle.am_canon.specs.CanonicalText.{number_form, value_form, names_form, typed_form, rep_form, decl_form}
 use Rattle.am_theory.specs.Contents.{Contents}
-use Rattle.am_theory.specs.Declarations.{◌>>=◌, word_of, value_of, list_of, name_of, names_of, typed_in, typed_of, rep_named, rep_in, rep_by, written_rep_of, sort_decl, function_decl, relation_decl, literal_decl, routine_decl, value_decl, quantified_axiom, plain_axiom, head_in, tail_of, is_all, axiom_by, axiom_decl, decl_headed, decl_in, decl_of}
+use Rattle.am_theory.specs.Declarations.{◌>>=◌, word_of, value_of, list_of, name_of, names_of, typed_in, typed_of, rep_named, rep_in, rep_by, written_rep_of, sort_decl, subsort_decl, function_decl, relation_decl, literal_decl, routine_decl, value_decl, quantified_axiom, plain_axiom, head_in, tail_of, is_all, axiom_by, axiom_decl, decl_headed, decl_in, decl_of}
 use Rattle.am_theory.specs.Faults.{quantifies}
 use Rattle.am_canon.specs.Spellable.{is_spellable_declaration}
 use Rattle.am_theory.specs.Traces.{IsOfForm, IsWritten}
@@ -149,6 +149,7 @@ rep_low f r e = rep_low_by (word_of f) f r e
 -- ---- what is kept of the members behind the first word
 abbrev formula_passes : Declaration → Bool
 formula_passes (Sort n r copy) = true
+formula_passes (Subsort n s) = true
 formula_passes (Function n args r) = true
 formula_passes (Relation n args) = true
 formula_passes (Literal n s v) = true
@@ -188,6 +189,18 @@ sort_kept (f ∷ g ∷ c ∷ []) d e =
     let s = height_word k.value in
     moved (f ∷ g ∷ c ∷ []) (Sort a.value (Some b.value) (Some k.value)) d k.gives (record { head = codes "sort"; members = word_form a.value ∷ rep_form b.value ∷ word_form k.value ∷ []; made = refl; low = omega arith; spelled = refl })
 sort_kept (f ∷ g ∷ c ∷ x ∷ xs) d e = absurd cc
+
+subsort_kept : (fs : List Form) (d : Declaration) → subsort_decl fs ≡ some d → Kept fs d
+unfolding decl_form
+subsort_kept [] d e = absurd cc
+subsort_kept (f ∷ []) d e = absurd cc
+subsort_kept (f ∷ g ∷ []) d e =
+    let a = first_of_two (name_of f) (λ (n : List ℕ). name_of g >>= λ (s : List ℕ). Some (Subsort n s)) d e in
+    let b = first_of_two (name_of g) (λ (s : List ℕ). Some (Subsort a.value s)) d a.gives in
+    let p = height_word a.value in
+    let q = height_word b.value in
+    moved (f ∷ g ∷ []) (Subsort a.value b.value) d b.gives (record { head = codes "subsort"; members = word_form a.value ∷ word_form b.value ∷ []; made = refl; low = omega arith; spelled = refl })
+subsort_kept (f ∷ g ∷ x ∷ xs) d e = absurd cc
 
 function_kept : (fs : List Form) (d : Declaration) → function_decl fs ≡ some d → Kept fs d
 unfolding decl_form
@@ -311,12 +324,13 @@ axioms_kept (f ∷ g ∷ fs) d e = absurd cc
 headed_kept : (w : List ℕ) (fs : List Form) (d : Declaration) → decl_headed w fs ≡ some d → Kept fs d
 headed_kept w fs d e =
     by_if (bytes_eq w (codes "sort")) _ _ d (Kept fs d) e (sort_kept fs d)
-    (λ e1. by_if (bytes_eq w (codes "function")) _ _ d (Kept fs d) e1 (function_kept fs d)
-    (λ e2. by_if (bytes_eq w (codes "relation")) _ _ d (Kept fs d) e2 (relation_kept fs d)
-    (λ e3. by_if (bytes_eq w (codes "literal")) _ _ d (Kept fs d) e3 (literal_kept fs d)
-    (λ e4. by_if (bytes_eq w (codes "routine")) _ _ d (Kept fs d) e4 (routine_kept fs d)
-    (λ e5. by_if (bytes_eq w (codes "value")) _ _ d (Kept fs d) e5 (value_kept fs d)
-    (λ e6. by_if (bytes_eq w (codes "axiom")) _ _ d (Kept fs d) e6 (axioms_kept fs d) (λ k. absurd cc)))))))
+    (λ e1. by_if (bytes_eq w (codes "subsort")) _ _ d (Kept fs d) e1 (subsort_kept fs d)
+    (λ e2. by_if (bytes_eq w (codes "function")) _ _ d (Kept fs d) e2 (function_kept fs d)
+    (λ e3. by_if (bytes_eq w (codes "relation")) _ _ d (Kept fs d) e3 (relation_kept fs d)
+    (λ e4. by_if (bytes_eq w (codes "literal")) _ _ d (Kept fs d) e4 (literal_kept fs d)
+    (λ e5. by_if (bytes_eq w (codes "routine")) _ _ d (Kept fs d) e5 (routine_kept fs d)
+    (λ e6. by_if (bytes_eq w (codes "value")) _ _ d (Kept fs d) e6 (value_kept fs d)
+    (λ e7. by_if (bytes_eq w (codes "axiom")) _ _ d (Kept fs d) e7 (axioms_kept fs d) (λ k. absurd cc))))))))
 
 record Behind (fs : List Form) (d : Declaration) : Type 0 where
   kept : Kept (tail_of fs) d
@@ -350,6 +364,7 @@ formula_spelled f d e =
 by_parts : (c : Contents) (d : Declaration) → IsWritten d → formula_passes d ≡ true → quantifies c d ≡ false → is_spellable_declaration d ≡ true
 unfolding quantifies
 by_parts c (Sort n r copy) w ok free = rw (w.0, w.1) refl
+by_parts c (Subsort n s) w ok free = rw (w.0, w.1) refl
 by_parts c (Function n args r) w ok free = rw (w.0, w.1, w.2) refl
 by_parts c (Relation n args) w ok free = rw (w.0, w.1) refl
 by_parts c (Literal n s v) w ok free = rw (w.0, w.1, w.2) refl

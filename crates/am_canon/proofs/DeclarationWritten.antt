@@ -5,7 +5,7 @@ use Rattle.std.specs.List.{list_all}
 use Rattle.am_term.specs.Names.{is_name}
 use Rattle.am_text.specs.declared.form.Form.{Form}
 use Rattle.am_text.specs.declared.form.FormNode.TheVariants as node
-use Rattle.am_text.specs.Spelling.{is_word, fits, is_writable}
+use Rattle.am_text.specs.Spelling.{is_word, fits_word, is_writable}
 use Rattle.am_text.proofs.Folds.{writable-Number, writable-Text, writable-List, writable-form}
 use Rattle.am_text.proofs.Runs.{both}
 use Rattle.am_syntax.specs.declared.written.Words.TheVariants.{Names}
@@ -25,7 +25,7 @@ use Rattle.am_canon.specs.Spellable.{is_spellable_declaration}
 use Rattle.am_theory.specs.Traces.{is_typed, fits_rep, is_rep_with, is_written_value}
 
 -- ---- parts
-number_written : (n : ℤ) → fits n ≡ true → is_writable (number_form n) ≡ true
+number_written : (n : ℤ) → fits_word n ≡ true → is_writable (number_form n) ≡ true
 number_written n e = writable-form 0 (node.Number n) ∙ writable-Number n ∙ e
 
 value_written : (v : LitValue) → is_written_value v ≡ true → is_writable (value_form v) ≡ true
@@ -65,7 +65,7 @@ rep_written written.Logical e = word_writable (codes "logical") refl
 rep_written (written.Char n) e = list_writable (codes "char") (number_form n ∷ []) refl (rw (number_written n e) refl)
 rep_written (written.DoubleVec m) e = list_writable (codes "double") (number_form m ∷ []) refl (rw (number_written m e) refl)
 rep_written (written.DoubleMat m n) e =
-    let s = both (fits m) (fits n) e in
+    let s = both (fits_word m) (fits_word n) e in
     list_writable (codes "double") (number_form m ∷ number_form n ∷ []) refl (rw (number_written m s.0, number_written n s.1) refl)
 rep_written (written.IntegerVec m) e = list_writable (codes "integer") (number_form m ∷ []) refl (rw (number_written m e) refl)
 
@@ -90,6 +90,9 @@ unfolding decl_form
 declaration_written (decl.Sort n r copy) e =
     let s = both (is_name n) (is_rep_with r copy) e in
     list_writable (codes "sort") (word_form n ∷ rep_forms r copy) refl (rw (name_written n s.0, reps_written r copy s.1) refl)
+declaration_written (decl.Subsort n s) e =
+    let t = both (is_name n) (is_name s) e in
+    list_writable (codes "subsort") (word_form n ∷ word_form s ∷ []) refl (rw (name_written n t.0, name_written s t.1) refl)
 declaration_written (decl.Function n args r) e =
     let s = both (is_name n) (list_all is_name args && is_name r) e in
     let t = both (list_all is_name args) (is_name r) s.1 in

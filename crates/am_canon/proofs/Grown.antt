@@ -49,6 +49,7 @@ pub record IsGrown (c last : Contents) (more : List Profile) : Type 0 where
   pub functions : last.functions ≡ c.functions ++ functions_more
   pub literals : last.literals ≡ c.literals ++ literals_more
   pub sorts : last.sorts ≡ c.sorts
+  pub parents : last.parents ≡ c.parents
   pub reps : last.reps ≡ c.reps
   pub copies : last.copies ≡ c.copies
   pub axioms : last.axioms ≡ c.axioms
@@ -64,6 +65,7 @@ ungrown c = record {
   functions = sym (append-nil c.functions);
   literals = sym (append-nil c.literals);
   sorts = refl;
+  parents = refl;
   reps = refl;
   copies = refl;
   axioms = refl;
@@ -86,6 +88,7 @@ grown-trans c mid last us vs g h = record {
   functions = joined c.functions mid.functions last.functions g.functions_more h.functions_more g.functions h.functions;
   literals = joined c.literals mid.literals last.literals g.literals_more h.literals_more g.literals h.literals;
   sorts = h.sorts ∙ g.sorts;
+  parents = h.parents ∙ g.parents;
   reps = h.reps ∙ g.reps;
   copies = h.copies ∙ g.copies;
   axioms = h.axioms ∙ g.axioms;
@@ -102,6 +105,7 @@ module _ (c : Contents) where
   -- the symbols that a declaration adds
   abbrev pub added : Declaration → List Profile
   added (decl.Sort n r copy) = []
+  added (decl.Subsort n s) = []
   added (decl.Function n args r) = record { name = n; args = sort_numbers c args; result = Some (sort_number c r); kind = kind.Function } ∷ []
   added (decl.Relation n args) = record { name = n; args = sort_numbers c args; result = None; kind = kind.Relation } ∷ []
   added (decl.Literal n s v) = record { name = n; args = []; result = Some (sort_number c s); kind = kind.Literal } ∷ []
@@ -130,6 +134,7 @@ module _ (c : Contents) where
     functions = f;
     literals = g;
     sorts = refl;
+    parents = refl;
     reps = refl;
     copies = refl;
     axioms = refl;
@@ -140,6 +145,7 @@ module _ (c : Contents) where
   pub grown-one : (d : Declaration) → DeclaresSymbol d → IsGrown c (with_decl c d) (added d)
   unfolding with_decl
   grown-one (decl.Sort n r copy) h = absurd h
+  grown-one (decl.Subsort n s) h = absurd h
   grown-one (decl.Function n args r) h = grows (added (decl.Function n args r)) [] c.routines [] c.functions [] c.literals (sym (append-nil c.routines)) (sym (append-nil c.functions)) (sym (append-nil c.literals)) (λ k i. refl)
   grown-one (decl.Relation n args) h = grows (added (decl.Relation n args)) [] c.routines [] c.functions [] c.literals (sym (append-nil c.routines)) (sym (append-nil c.functions)) (sym (append-nil c.literals)) (λ k i. refl)
   grown-one (decl.Literal n s v) h =
@@ -164,6 +170,7 @@ module _ (c : Contents) where
     pub below-one : (d : Declaration) → DeclaresSymbol d → IsBelow (with_decl c d)
     unfolding with_decl
     below-one (decl.Sort n r copy) h = absurd h
+    below-one (decl.Subsort n s) h = absurd h
     below-one (decl.Function n args r) h = record {
       routines = λ k i. b.routines k (less (added (decl.Function n args r)) k i);
       functions = λ k i. b.functions k (less (added (decl.Function n args r)) k i);

@@ -3,7 +3,8 @@ pub mod Called
 pub mod Joined
 pub mod KnownSorts
 pub mod MoreSorts
-pub mod Parents
+pub mod SortFirst
+pub mod SoundSorts
 pub mod Swapped
 pub mod DeclarationAgain
 pub mod DeclarationPlaces

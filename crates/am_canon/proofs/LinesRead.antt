@@ -15,7 +15,7 @@ use Rattle.am_canon.specs.CanonicalText.{decl_form, version_form}
 use Rattle.am_theory.specs.Limits.{file_limit, depth_limit}
 use Rattle.am_theory.specs.Reading.{◌>>=◌, checked, declared_by, declared, read_from, versioned, forms_theory, text_theory, theory}
 use Rattle.am_theory.specs.Traces.{Trace}
-use Rattle.am_canon.proofs.VersionForm.{version-writable, version-height, version-read}
+use Rattle.am_canon.proofs.VersionForm.{IsVersion, version-writable, version-height, version-read, version-begins}
 use Rattle.am_theory.proofs.NoFault.{faultless}
 use Rattle.am_canon.proofs.DeclarationAgain.{declaration_again}
 use Rattle.am_canon.proofs.DeclarationPlaces.{same_declaration, same_version}
@@ -63,20 +63,22 @@ run-read (d ∷ ds) c last (f ∷ fs) t e =
     (run-read ds (with_decl c d) last fs t.2 (rest_bare f (decl_form d) fs (map decl_form ds) e))
 
 -- ---- the whole
-headed-read : (size : ℕ) (ds : List Declaration) (last : Contents) (fs : List Form) → Trace nothing ds last → map bare fs ≡ map bare (version_form ∷ map decl_form ds) → forms_theory size fs ≡ ok last
-unfolding forms_theory
-headed-read size ds last [] t e = absurd cc
-headed-read size ds last (f ∷ fs) t e =
-    ap (λ o. versioned f.place o fs) (same_version f version_form (first_bare f version_form fs (map decl_form ds) e) ∙ version-read)
-    ∙ run-read ds nothing last fs t (rest_bare f version_form fs (map decl_form ds) e)
+module _ (v : ℕ) (h : IsVersion v) where
+  headed-read : (size : ℕ) (ds : List Declaration) (last : Contents) (fs : List Form) → Trace (nothing v) ds last → map bare fs ≡ map bare (version_form v ∷ map decl_form ds) → forms_theory size fs ≡ ok last
+  unfolding forms_theory
+  headed-read size ds last [] t e = absurd cc
+  headed-read size ds last (f ∷ fs) t e =
+      ap (λ o. versioned f.place o fs) (same_version f (version_form v) (first_bare f (version_form v) fs (map decl_form ds) e) ∙ version-read v)
+      ∙ version-begins v h f.place fs
+      ∙ run-read ds (nothing v) last fs t (rest_bare f (version_form v) fs (map decl_form ds) e)
 
-pub lines_theory : (ds : List Declaration) (last : Contents) → Trace nothing ds last → length (lines (version_form ∷ map decl_form ds)) ≤ file_limit → theory (lines (version_form ∷ map decl_form ds)) ≡ ok last
-unfolding theory
-lines_theory ds last t short =
-    let r : ReadsAs file_limit depth_limit (lines (version_form ∷ map decl_form ds)) (version_form ∷ map decl_form ds) =
-    lines_again file_limit depth_limit (version_form ∷ map decl_form ds)
-    (and_both (is_writable version_form) (list_all is_writable (map decl_form ds)) version-writable (all-writable ds nothing last t))
-    (let h = all-low ds nothing last t in omega (arith, version-height))
-    short in
-    ap (text_theory (length (lines (version_form ∷ map decl_form ds)))) r.1
-    ∙ headed-read (length (lines (version_form ∷ map decl_form ds))) ds last r.0 t r.2
+  pub lines_theory : (ds : List Declaration) (last : Contents) → Trace (nothing v) ds last → length (lines (version_form v ∷ map decl_form ds)) ≤ file_limit → theory (lines (version_form v ∷ map decl_form ds)) ≡ ok last
+  unfolding theory
+  lines_theory ds last t short =
+      let r : ReadsAs file_limit depth_limit (lines (version_form v ∷ map decl_form ds)) (version_form v ∷ map decl_form ds) =
+      lines_again file_limit depth_limit (version_form v ∷ map decl_form ds)
+      (and_both (is_writable (version_form v)) (list_all is_writable (map decl_form ds)) (version-writable v h) (all-writable ds (nothing v) last t))
+      (let i = all-low ds (nothing v) last t in omega (arith, version-height v))
+      short in
+      ap (text_theory (length (lines (version_form v ∷ map decl_form ds)))) r.1
+      ∙ headed-read (length (lines (version_form v ∷ map decl_form ds))) ds last r.0 t r.2

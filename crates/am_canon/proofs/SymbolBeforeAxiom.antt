@@ -2,7 +2,7 @@
 use Rattle.std.proofs.Common.{◌≡◌, ◌∙◌, ℕ, false, List, [], ◌∷◌, ◌++◌, map, length, refl, sym, ap, Some, None}
 use Rattle.std.specs.List.{list_any}
 use Rattle.std.specs.Str.{bytes_eq}
-use Rattle.std.proofs.lemmas.List.{map-append}
+use Rattle.std.proofs.lemmas.List.{append-nil, map-append}
 use Rattle.std.proofs.lemmas.List.Folds.{list_any-append}
 use Rattle.std.proofs.lemmas.Grind.{flat_map-append}
 use Rattle.am_term.specs.declared.id.SortId.{SortId}
@@ -25,9 +25,11 @@ use Rattle.am_theory.specs.Contents.{Contents, sort_number, sort_numbers, symbol
 use Rattle.am_theory.specs.Faults.{names_in, has_unknown_name, axiom_names, variable_names, is_symbol_name, is_taken, is_literal_of, is_twice, is_badly_represented, clashes, is_over_limit}
 use Rattle.am_syntax.proofs.Positions.{position_kept}
 use Rattle.am_theory.proofs.NoFault.{IsFaultless}
-use Rattle.am_canon.proofs.FaultlessSymbol.{symbol-faultless}
 use Rattle.am_theory.proofs.Appends.{none_both, get-left}
+use Rattle.am_theory.proofs.Sound.{Sound}
+use Rattle.am_canon.proofs.FaultlessSymbol.{symbol-faultless}
 use Rattle.am_canon.proofs.Joined.{none-front, none-behind, none-also, none-either, disjoint-turned}
+use Rattle.am_canon.proofs.SoundSorts.{results-in, standings-in}
 use Rattle.am_canon.proofs.AxiomKept.{variables-known, meaning-kept, axiom-faultless}
 use Rattle.am_canon.proofs.Swapped.{IsSwapped, DeclaresSymbol}
 
@@ -66,6 +68,7 @@ module _ (c : Contents) (vs : List Typed) (g : WrittenFormula) where
   symbol-before : (d : Declaration) → DeclaresSymbol d → IsFaultless stated d → IsFaultless c d
   unfolding has_unknown_name is_twice is_badly_represented clashes is_over_limit
   symbol-before (decl.Sort n r copy) h k = absurd h
+  symbol-before (decl.Subsort n s) h k = absurd h
   symbol-before (decl.Function n args r) h k = symbol-faultless stated c (decl.Function n args r) tt k k.known (untaken n k.new) refl refl k.few
   symbol-before (decl.Relation n args) h k = symbol-faultless stated c (decl.Relation n args) tt k k.known (untaken n k.new) refl refl k.few
   symbol-before (decl.Literal n s v) h k =
@@ -88,7 +91,7 @@ module _ (c : Contents) (vs : List Typed) (g : WrittenFormula) where
   apart_from ns e = disjoint-turned ns (names_in vs) (none-also (is_taken stated) (λ w. is_among w (names_in vs)) unlike_variables ns e)
 
   -- ---- the axiom behind more symbols
-  module _ (k : IsFaultless c (decl.Axiom vs g)) (ys : List Profile) (rs : List Routine) (fs : List FortranFunction) (ls : List LiteralDecl) (apart : list_any (λ v. is_among v (names_of ys)) (names_in vs) ≡ false) where
+  module _ (sound : Sound c) (k : IsFaultless c (decl.Axiom vs g)) (ys : List Profile) (rs : List Routine) (fs : List FortranFunction) (ls : List LiteralDecl) (apart : list_any (λ v. is_among v (names_of ys)) (names_in vs) ≡ false) where
     abbrev more : Contents
     more = record c { symbols = c.symbols ++ ys; routines = rs; functions = fs; literals = ls }
 
@@ -97,8 +100,10 @@ module _ (c : Contents) (vs : List Typed) (g : WrittenFormula) where
       names = λ w i e. ap (position_of w) (map-append _ c.symbols ys) ∙ position_kept w (symbol_names c) (names_of ys) i e;
       symbols = λ i y e. get-left c.symbols ys i y e;
       bound = refl;
-      fits = λ s t. refl;
-      akin = λ s t. refl;
+      more = [];
+      parents = sym (append-nil c.parents);
+      results = results-in c sound vs;
+      standings = standings-in c sound vs (variables-known c vs g k);
     }
 
     unnamed : (w : List ℕ) → is_symbol_name c w ≡ false → is_among w (names_of ys) ≡ false → is_symbol_name more w ≡ false
@@ -123,25 +128,26 @@ module _ (c : Contents) (vs : List Typed) (g : WrittenFormula) where
   output-names inputs (o ∷ os) = ap (λ ns. o.name ∷ ns) (output-names inputs os)
 
   -- ---- all kinds
-  module _ (k : IsFaultless c (decl.Axiom vs g)) where
+  module _ (sound : Sound c) (k : IsFaultless c (decl.Axiom vs g)) where
     pub symbol-first : (d : Declaration) → DeclaresSymbol d → IsFaultless (with_decl c (decl.Axiom vs g)) d → IsSwapped c (decl.Axiom vs g) d
     unfolding with_decl is_twice
     symbol-first (decl.Sort n r copy) h l = absurd h
+    symbol-first (decl.Subsort n s) h l = absurd h
     symbol-first (decl.Function n args r) h l =
         let ys : List Profile = record { name = n; args = sort_numbers c args; result = Some (sort_number c r); kind = kind.Function } ∷ [] in
         let apart = apart_from (n ∷ []) (none_both _ false l.new refl) in
         record {
           before = symbol-before (decl.Function n args r) tt l;
-          behind = axiom-behind k ys c.routines c.functions c.literals apart;
-          same = axiom-same k ys c.routines c.functions c.literals apart;
+          behind = axiom-behind sound k ys c.routines c.functions c.literals apart;
+          same = axiom-same sound k ys c.routines c.functions c.literals apart;
         }
     symbol-first (decl.Relation n args) h l =
         let ys : List Profile = record { name = n; args = sort_numbers c args; result = None; kind = kind.Relation } ∷ [] in
         let apart = apart_from (n ∷ []) (none_both _ false l.new refl) in
         record {
           before = symbol-before (decl.Relation n args) tt l;
-          behind = axiom-behind k ys c.routines c.functions c.literals apart;
-          same = axiom-same k ys c.routines c.functions c.literals apart;
+          behind = axiom-behind sound k ys c.routines c.functions c.literals apart;
+          same = axiom-same sound k ys c.routines c.functions c.literals apart;
         }
     symbol-first (decl.Literal n s v) h l =
         let ys : List Profile = record { name = n; args = []; result = Some (sort_number c s); kind = kind.Literal } ∷ [] in
@@ -149,8 +155,8 @@ module _ (c : Contents) (vs : List Typed) (g : WrittenFormula) where
         let apart = apart_from (n ∷ []) (none_both _ false (none_left (is_taken stated n) _ l.new) refl) in
         record {
           before = symbol-before (decl.Literal n s v) tt l;
-          behind = axiom-behind k ys c.routines c.functions ls apart;
-          same = axiom-same k ys c.routines c.functions ls apart;
+          behind = axiom-behind sound k ys c.routines c.functions ls apart;
+          same = axiom-same sound k ys c.routines c.functions ls apart;
         }
     symbol-first (decl.Routine n inputs outputs) h l =
         let ys : List Profile = map (output_profile c inputs) outputs in
@@ -158,8 +164,8 @@ module _ (c : Contents) (vs : List Typed) (g : WrittenFormula) where
         let apart = ap (λ ns. list_any (λ v. is_among v ns) (names_in vs)) (output-names inputs outputs) ∙ apart_from (names_in outputs) (none_left (list_any (is_taken stated) (names_in outputs)) _ l.new) in
         record {
           before = symbol-before (decl.Routine n inputs outputs) tt l;
-          behind = axiom-behind k ys rs c.functions c.literals apart;
-          same = axiom-same k ys rs c.functions c.literals apart;
+          behind = axiom-behind sound k ys rs c.functions c.literals apart;
+          same = axiom-same sound k ys rs c.functions c.literals apart;
         }
     symbol-first (decl.Value f n args r) h l =
         let ys : List Profile = record { name = n; args = sort_numbers c args; result = Some (sort_number c r); kind = kind.Value } ∷ [] in
@@ -167,7 +173,7 @@ module _ (c : Contents) (vs : List Typed) (g : WrittenFormula) where
         let apart = apart_from (n ∷ []) (none_both _ false l.new refl) in
         record {
           before = symbol-before (decl.Value f n args r) tt l;
-          behind = axiom-behind k ys c.routines fs c.literals apart;
-          same = axiom-same k ys c.routines fs c.literals apart;
+          behind = axiom-behind sound k ys c.routines fs c.literals apart;
+          same = axiom-same sound k ys c.routines fs c.literals apart;
         }
     symbol-first (decl.Axiom xs f) h l = absurd h

@@ -20,7 +20,7 @@ use Rattle.am_theory.specs.declared.declaration.Declaration.{Declaration}
 use Rattle.am_theory.specs.declared.declaration.Declaration.TheVariants as decl
 use Rattle.am_theory.specs.Contents.{Contents, sort_number, sort_numbers, output_profile, numbers_from, next_symbol, with_decl}
 use Rattle.am_theory.specs.Faults.{sorts_in, is_unknown_sort, has_unknown_name}
-use Rattle.am_canon.specs.CanonicalText.{sort_name, sort_names, typed_at, typed_output, routine_decl, literal_decl, value_decl, symbol_decl, symbol_decls}
+use Rattle.am_canon.specs.CanonicalText.{sort_name, sort_names, typed_at, typed_output, declared_routine, declared_literal, declared_value, symbol_decl, symbol_decls}
 use Rattle.am_theory.specs.Traces.{Trace, IsOfForm, is_typed}
 use Rattle.am_theory.proofs.NoFault.{IsFaultless, faultless}
 use Rattle.am_theory.proofs.Appends.{get-end}
@@ -86,7 +86,7 @@ module _ (c m : Contents) (more : List Profile) (b : IsBelow c) where
   literal-back n s v g e =
       let y : Profile = record { name = n; args = []; result = Some (sort_number c s); kind = kind.Literal } in
       let l : LiteralDecl = record { symbol = next_symbol c; value = v } in
-      ap (λ o. literal_decl m y o ++ [])
+      ap (λ o. declared_literal m y o ++ [])
       (ap (find (stands_for (length c.symbols))) g.literals ∙ found_there (stands_for (length c.symbols)) c.literals l g.literals_more (b.literals (length c.symbols) (omega arith)) (own_number (length c.symbols)))
       ∙ ap (λ w. decl.Literal n w v ∷ []) (result-back c m g.sorts s e)
 
@@ -95,7 +95,7 @@ module _ (c m : Contents) (more : List Profile) (b : IsBelow c) where
   value-back f n args r g e =
       let y : Profile = record { name = n; args = sort_numbers c args; result = Some (sort_number c r); kind = kind.Value } in
       let x : FortranFunction = record { name = f; symbol = next_symbol c } in
-      ap (λ o. value_decl m y o ++ [])
+      ap (λ o. declared_value m y o ++ [])
       (ap (find (computes (length c.symbols))) g.functions ∙ found_there (computes (length c.symbols)) c.functions x g.functions_more (b.functions (length c.symbols) (omega arith)) (own_number (length c.symbols)))
       ∙ ap (λ ws. decl.Value f n ws (sort_name m (sort_number c r)) ∷ []) (args-back c m g.sorts args (none_left (list_any (is_unknown_sort c) args) (is_unknown_sort c r) e))
       ∙ ap (λ w. decl.Value f n args w ∷ []) (result-back c m g.sorts r (none_right (list_any (is_unknown_sort c) args) (is_unknown_sort c r) e))
@@ -115,7 +115,7 @@ module _ (c m : Contents) (more : List Profile) (b : IsBelow c) where
     later-nothing : (xs : List Typed) (j : ℕ) → length c.symbols < j → j + length xs ≤ length c.symbols + length (o ∷ os) → symbol_decls m j (map (output_profile c inputs) xs) ≡ []
     later-nothing [] j h i = refl
     later-nothing (x ∷ xs) j h i =
-        ap (λ q. routine_decl m q ++ symbol_decls m (j + 1) (map (output_profile c inputs) xs)) (started-nowhere j h (omega arith))
+        ap (λ q. declared_routine m q ++ symbol_decls m (j + 1) (map (output_profile c inputs) xs)) (started-nowhere j h (omega arith))
         ∙ later-nothing xs (j + 1) (omega arith) (omega arith)
 
     first-found : find (starts (length c.symbols)) m.routines ≡ Some r
@@ -135,7 +135,7 @@ module _ (c m : Contents) (more : List Profile) (b : IsBelow c) where
     routine_some-back : has_unknown_name c (decl.Routine n inputs (o ∷ os)) ≡ false → IsWrittenBack (decl.Routine n inputs (o ∷ os))
     unfolding has_unknown_name
     routine_some-back e =
-        ap (λ q. routine_decl m q ++ symbol_decls m (length c.symbols + 1) (map (output_profile c inputs) os)) first-found
+        ap (λ q. declared_routine m q ++ symbol_decls m (length c.symbols + 1) (map (output_profile c inputs) os)) first-found
         ∙ ap (λ ds. decl.Routine n (sort_names m (sort_numbers c inputs)) (map (typed_output m) r.outputs) ∷ ds) (later-nothing os (length c.symbols + 1) (omega arith) (omega arith))
         ∙ ap (λ ws. decl.Routine n ws (map (typed_output m) r.outputs) ∷ []) (args-back c m sorts-there inputs (none_left (list_any (is_unknown_sort c) inputs) (list_any (is_unknown_sort c) (sorts_in (o ∷ os))) e))
         ∙ ap (λ ts. decl.Routine n inputs ts ∷ [])
@@ -161,6 +161,7 @@ routine-some c n inputs outputs o k =
 
 decl-back : (c m : Contents) (more : List Profile) (d : Declaration) → DeclaresSymbol d → IsOfForm d → IsBelow c → IsFaultless c d → IsGrown (with_decl c d) m more → symbol_decls m (length c.symbols) (added c d) ≡ d ∷ []
 decl-back c m more (decl.Sort n r copy) h f b k g = absurd h
+decl-back c m more (decl.Subsort n s) h f b k g = absurd h
 decl-back c m more (decl.Function n args r) h f b k g = function-back c m more b n args r g k.known
 decl-back c m more (decl.Relation n args) h f b k g = relation-back c m more b n args g k.known
 decl-back c m more (decl.Literal n s v) h f b k g = literal-back c m more b n s v g k.known

@@ -60,6 +60,7 @@ rep_forms (Some r) (Some n) = rep_form r ∷ word_form n ∷ []
 
 unfoldable pub decl_form : Declaration → Form
 decl_form (decl.Sort n r copy) = headed_form (codes "sort") (word_form n ∷ rep_forms r copy)
+decl_form (decl.Subsort n s) = headed_form (codes "subsort") (word_form n ∷ word_form s ∷ [])
 decl_form (decl.Function n args r) = headed_form (codes "function") (word_form n ∷ names_form args ∷ word_form r ∷ [])
 decl_form (decl.Relation n args) = headed_form (codes "relation") (word_form n ∷ names_form args ∷ [])
 decl_form (decl.Literal n s v) = headed_form (codes "literal") (word_form n ∷ word_form s ∷ value_form v ∷ [])
@@ -68,9 +69,9 @@ decl_form (decl.Value f n args r) = headed_form (codes "value") (word_form f ∷
 decl_form (decl.Axiom [] f) = headed_form (codes "axiom") (formula_form f ∷ [])
 decl_form (decl.Axiom (v ∷ vs) f) = headed_form (codes "axiom") (headed_form (codes "all") (list_form (map typed_form (v ∷ vs)) ∷ formula_form f ∷ []) ∷ [])
 
--- `(theory 1)`
-abbrev pub version_form : Form
-version_form = headed_form (codes "theory") (number_form (pos 1) ∷ [])
+-- `(theory 1)` or `(theory 2)`
+abbrev pub version_form : ℕ → Form
+version_form v = headed_form (codes "theory") (number_form (pos v) ∷ [])
 
 -- ---- the declarations of a theory
 
@@ -94,16 +95,22 @@ written_rep (rep.DoubleVec m) = written.DoubleVec (pos m)
 written_rep (rep.DoubleMat m n) = written.DoubleMat (pos m) (pos n)
 written_rep (rep.IntegerVec m) = written.IntegerVec (pos m)
 
-abbrev pub written_rep_of : Option Rep → Option WrittenRep
-written_rep_of None = None
-written_rep_of (Some r) = Some (written_rep r)
+abbrev pub rep_as_written : Option Rep → Option WrittenRep
+rep_as_written None = None
+rep_as_written (Some r) = Some (written_rep r)
+
+-- a sort by its name and its representation, or by its name and that of the sort above it
+abbrev pub declared_sort : Contents → List ℕ → Option SortId → Option Rep → Option (List ℕ) → Declaration
+declared_sort c n None r copy = decl.Sort n (rep_as_written r) copy
+declared_sort c n (Some p) r copy = decl.Subsort n (sort_name c p)
 
 -- a declaration for each sort, in order
-abbrev pub sort_decls : List (List ℕ) → List (Option Rep) → List (Option (List ℕ)) → List Declaration
-sort_decls (n ∷ ns) (r ∷ rs) (c ∷ cs) = decl.Sort n (written_rep_of r) c ∷ sort_decls ns rs cs
-sort_decls [] rs cs = []
-sort_decls (n ∷ ns) [] cs = []
-sort_decls (n ∷ ns) (r ∷ rs) [] = []
+abbrev pub sort_decls : Contents → List (List ℕ) → List (Option SortId) → List (Option Rep) → List (Option (List ℕ)) → List Declaration
+sort_decls c (n ∷ ns) (p ∷ ps) (r ∷ rs) (k ∷ ks) = declared_sort c n p r k ∷ sort_decls c ns ps rs ks
+sort_decls c [] ps rs ks = []
+sort_decls c (n ∷ ns) [] rs ks = []
+sort_decls c (n ∷ ns) (p ∷ ps) [] ks = []
+sort_decls c (n ∷ ns) (p ∷ ps) (r ∷ rs) [] = []
 
 abbrev pub typed_at : Contents → Option Profile → Typed
 typed_at c None = record { name = []; sort = [] }
@@ -118,24 +125,24 @@ is_first k [] = false
 is_first k (f ∷ fs) = f.0 == k
 
 -- the routine whose first output is this symbol; a later output has none
-abbrev pub routine_decl : Contents → Option Routine → List Declaration
-routine_decl c None = []
-routine_decl c (Some r) = decl.Routine r.name (sort_names c r.inputs) (map (typed_output c) r.outputs) ∷ []
+abbrev pub declared_routine : Contents → Option Routine → List Declaration
+declared_routine c None = []
+declared_routine c (Some r) = decl.Routine r.name (sort_names c r.inputs) (map (typed_output c) r.outputs) ∷ []
 
-abbrev pub literal_decl : Contents → Profile → Option LiteralDecl → List Declaration
-literal_decl c y None = []
-literal_decl c y (Some l) = decl.Literal y.name (result_name c y.result) l.value ∷ []
+abbrev pub declared_literal : Contents → Profile → Option LiteralDecl → List Declaration
+declared_literal c y None = []
+declared_literal c y (Some l) = decl.Literal y.name (result_name c y.result) l.value ∷ []
 
-abbrev pub value_decl : Contents → Profile → Option FortranFunction → List Declaration
-value_decl c y None = []
-value_decl c y (Some f) = decl.Value f.name y.name (sort_names c y.args) (result_name c y.result) ∷ []
+abbrev pub declared_value : Contents → Profile → Option FortranFunction → List Declaration
+declared_value c y None = []
+declared_value c y (Some f) = decl.Value f.name y.name (sort_names c y.args) (result_name c y.result) ∷ []
 
 abbrev pub symbol_decl : Contents → ℕ → Profile → SymKind → List Declaration
 symbol_decl c k y kind.Function = decl.Function y.name (sort_names c y.args) (result_name c y.result) ∷ []
 symbol_decl c k y kind.Relation = decl.Relation y.name (sort_names c y.args) ∷ []
-symbol_decl c k y kind.Literal = literal_decl c y (find (λ (l : LiteralDecl). l.symbol.0 == k) c.literals)
-symbol_decl c k y kind.Output = routine_decl c (find (λ (r : Routine). is_first k r.outputs) c.routines)
-symbol_decl c k y kind.Value = value_decl c y (find (λ (f : FortranFunction). f.symbol.0 == k) c.functions)
+symbol_decl c k y kind.Literal = declared_literal c y (find (λ (l : LiteralDecl). l.symbol.0 == k) c.literals)
+symbol_decl c k y kind.Output = declared_routine c (find (λ (r : Routine). is_first k r.outputs) c.routines)
+symbol_decl c k y kind.Value = declared_value c y (find (λ (f : FortranFunction). f.symbol.0 == k) c.functions)
 
 -- a declaration for each symbol, in order, from number k on; but one for all outputs of a routine
 abbrev pub symbol_decls : Contents → ℕ → List Profile → List Declaration
@@ -153,11 +160,11 @@ abbrev pub written_axiom : Contents → Axiom → Declaration
 written_axiom c a = decl.Axiom (map (typed_variable c) a.vars) (named_formula (axiom_naming c a) a.formula)
 
 unfoldable pub declarations : Contents → List Declaration
-declarations c = sort_decls c.sorts c.reps c.copies ++ symbol_decls c 0 c.symbols ++ map (written_axiom c) c.axioms
+declarations c = sort_decls c c.sorts c.parents c.reps c.copies ++ symbol_decls c 0 c.symbols ++ map (written_axiom c) c.axioms
 
 -- the first form, and then each declaration, a line each
 unfoldable pub canon : Contents → List ℕ
-canon c = lines (version_form ∷ map decl_form (declarations c))
+canon c = lines (version_form c.version ∷ map decl_form (declarations c))
 
 abbrev pub canonical_text : Theory → List ℕ
 canonical_text t = canon (contents t)

@@ -15,6 +15,7 @@ use Rattle.am_theory.specs.Traces.{is_typed, is_rep_with, is_written_value}
 -- no quantifier inside.
 abbrev pub is_spellable_declaration : Declaration → Bool
 is_spellable_declaration (decl.Sort n r copy) = is_name n && is_rep_with r copy
+is_spellable_declaration (decl.Subsort n s) = is_name n && is_name s
 is_spellable_declaration (decl.Function n args r) = is_name n && (list_all is_name args && is_name r)
 is_spellable_declaration (decl.Relation n args) = is_name n && list_all is_name args
 is_spellable_declaration (decl.Literal n s v) = is_name n && (is_name s && is_written_value v)

@@ -192,8 +192,17 @@ fn sort_form(
     Ok(list_form(members))
 }
 
+fn subsort_form(alloc: Global, name: &Name, sort: &Name) -> Result<Form, NoMemory>
+    ensures { IfOk result (λ f. f ≡ headed_form (codes "subsort") (word_form name.now ∷ word_form sort.now ∷ [])) }
+{
+    let members = two_words(alloc, "subsort", name)?;
+    let members = with_word(alloc, members, sort.as_str())?;
+    Ok(list_form(members))
+}
+
 fn function_form(alloc: Global, name: &Name, args: &[Name], sort: &Name) -> Result<Form, NoMemory>
-    ensures { IfOk result (λ f. f ≡ headed_form (codes "function") (word_form name.now ∷ names_form args.now ∷ word_form sort.now ∷ [])) }
+    ensures { IfOk result (λ f. f ≡ headed_form (codes "function")
+        (word_form name.now ∷ names_form args.now ∷ word_form sort.now ∷ [])) }
 {
     let members = two_words(alloc, "function", name)?;
     let members = with_names(alloc, members, args)?;
@@ -210,7 +219,8 @@ fn relation_form(alloc: Global, name: &Name, args: &[Name]) -> Result<Form, NoMe
 }
 
 fn literal_form(alloc: Global, name: &Name, sort: &Name, value: &LitValue) -> Result<Form, NoMemory>
-    ensures { IfOk result (λ f. f ≡ headed_form (codes "literal") (word_form name.now ∷ word_form sort.now ∷ value_form value.now ∷ [])) }
+    ensures { IfOk result (λ f. f ≡ headed_form (codes "literal")
+        (word_form name.now ∷ word_form sort.now ∷ value_form value.now ∷ [])) }
 {
     let members = two_words(alloc, "literal", name)?;
     let members = with_word(alloc, members, sort.as_str())?;
@@ -232,7 +242,8 @@ fn routine_form(
     inputs: &[Name],
     outputs: &[Typed],
 ) -> Result<Form, NoMemory>
-    ensures { IfOk result (λ f. f ≡ headed_form (codes "routine") (word_form name.now ∷ names_form inputs.now ∷ map typed_form outputs.now)) }
+    ensures { IfOk result (λ f. f ≡ headed_form (codes "routine")
+        (word_form name.now ∷ names_form inputs.now ∷ map typed_form outputs.now)) }
 {
     let members = two_words(alloc, "routine", name)?;
     let members = with_names(alloc, members, inputs)?;
@@ -247,7 +258,8 @@ fn value_decl_form(
     args: &[Name],
     sort: &Name,
 ) -> Result<Form, NoMemory>
-    ensures { IfOk result (λ f. f ≡ headed_form (codes "value") (word_form function.now ∷ word_form name.now ∷ names_form args.now ∷ word_form sort.now ∷ [])) }
+    ensures { IfOk result (λ f. f ≡ headed_form (codes "value")
+        (word_form function.now ∷ word_form name.now ∷ names_form args.now ∷ word_form sort.now ∷ [])) }
 {
     let members = two_words(alloc, "value", function)?;
     let members = with_word(alloc, members, name.as_str())?;
@@ -256,11 +268,11 @@ fn value_decl_form(
     Ok(list_form(members))
 }
 
-/// The first form of a theory file.
-pub fn version_form(alloc: Global) -> Result<Form, NoMemory>
-    ensures { IfOk result (λ f. f ≡ version_form) }
+/// The first form of a theory file of this version.
+pub fn version_form(alloc: Global, version: u32) -> Result<Form, NoMemory>
+    ensures { IfOk result (λ f. f ≡ version_form version) }
 {
-    one_number(alloc, "theory", 1)
+    one_number(alloc, "theory", i64::from(version))
 }
 
 #[tactic(auto, unfolding(crate::specs::CanonicalText::decl_form))]
@@ -282,7 +294,8 @@ fn axiom_form(
 }
 
 fn quantified_form(alloc: Global, variables: &[Typed], formula: Form) -> Result<Form, NoMemory>
-    ensures { IfOk result (λ f. f ≡ headed_form (codes "all") (list_form (map typed_form variables.now) ∷ formula ∷ [])) }
+    ensures { IfOk result (λ f. f ≡ headed_form (codes "all")
+        (list_form (map typed_form variables.now) ∷ formula ∷ [])) }
 {
     let members = quantifier(alloc, variables)?;
     let members = with_form(members, formula)?;
@@ -313,6 +326,7 @@ pub fn decl_form(alloc: Global, declaration: &Declaration) -> Result<Form, NoMem
 {
     match declaration {
         Declaration::Sort { name, rep, copy } => sort_form(alloc, name, rep, copy),
+        Declaration::Subsort { name, sort } => subsort_form(alloc, name, sort),
         Declaration::Function { name, args, result } => {
             function_form(alloc, name, args.as_slice(), result)
         }

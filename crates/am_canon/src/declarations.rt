@@ -1,7 +1,7 @@
 ghost use Rattle.std.specs.Prelude.{◌≡◌, ◌==◌, ◌++◌, [], ◌∷◌, Some, IfOk, OnOk, map, find, option_copied};
 ghost use Rattle.am_syntax.specs.Scopes.{profile};
 ghost use Rattle.am_theory.specs.Contents.{contents};
-ghost use Rattle.am_canon.specs.CanonicalText.{sort_name, sort_names, result_name, written_rep, written_rep_of, sort_decls, typed_output, is_first, routine_decl, literal_decl, value_decl, symbol_decl, symbol_decls, typed_at, typed_variable, axiom_naming, written_axiom, declarations};
+ghost use Rattle.am_canon.specs.CanonicalText.{sort_name, sort_names, result_name, written_rep, rep_as_written, declared_sort, sort_decls, typed_output, is_first, declared_routine, declared_literal, declared_value, symbol_decl, symbol_decls, typed_at, typed_variable, axiom_naming, written_axiom, declarations};
 ghost use Rattle.am_syntax.specs.Naming.{named_formula};
 
 use am_syntax::{Naming, WrittenFormula, named_formula};
@@ -19,68 +19,81 @@ use std::alloc::Global;
 pub fn declarations(alloc: Global, theory: &Theory) -> Result<Items<Declaration>, NoMemory>
     ensures { IfOk result (λ ds. ds ≡ declarations (contents theory.now)) }
 {
-    let mut all = sort_decls(
-        alloc,
-        theory.sig.sorts.as_slice(),
-        theory.reps.as_slice(),
-        theory.copies.as_slice(),
-    )?;
+    let mut all = sort_decls(alloc, theory)?;
     push_symbols(alloc, theory, &mut all)?;
     push_axioms(alloc, theory, &mut all)?;
     Ok(all)
 }
 
 #[tactic(auto, using(crate::proofs::DeclarationSteps::sort_steps))]
-fn sort_decls(
-    alloc: Global,
-    names: &[Name],
-    reps: &[Option<Rep>],
-    copies: &[Option<Name>],
-) -> Result<Items<Declaration>, NoMemory>
-    ensures { IfOk result (λ ds. ds ≡ sort_decls names.now reps.now copies.now) }
+fn sort_decls(alloc: Global, theory: &Theory) -> Result<Items<Declaration>, NoMemory>
+    ensures { IfOk result (λ ds. ds ≡ sort_decls
+        (contents theory.now) theory.now.sig.sorts theory.now.sig.parents theory.now.reps theory.now.copies) }
 {
     let mut made = Items::new(alloc);
-    let mut names_left = names;
-    let mut reps_left = reps;
-    let mut copies_left = copies;
-    while let [name, later_names @ ..] = names_left {
-        let [rep, later_reps @ ..] = reps_left else {
+    let mut names = theory.sig.sorts.as_slice();
+    let mut parents = theory.sig.parents.as_slice();
+    let mut reps = theory.reps.as_slice();
+    let mut copies = theory.copies.as_slice();
+    while let [name, later_names @ ..] = names {
+        let [parent, later_parents @ ..] = parents else {
             return Ok(made);
         };
-        let [copy, later_copies @ ..] = copies_left else {
+        let [rep, later_reps @ ..] = reps else {
             return Ok(made);
         };
-        made = with_sort(alloc, made, name, *rep, copy)?;
-        names_left = later_names;
-        reps_left = later_reps;
-        copies_left = later_copies;
+        let [copy, later_copies @ ..] = copies else {
+            return Ok(made);
+        };
+        push_sort(alloc, theory, name, *parent, *rep, copy, &mut made)?;
+        names = later_names;
+        parents = later_parents;
+        reps = later_reps;
+        copies = later_copies;
     }
     Ok(made)
 }
 
-// The declarations with that of a sort at the end.
-fn with_sort(
+// The declaration of a sort.
+fn push_sort(
     alloc: Global,
-    made: Items<Declaration>,
+    theory: &Theory,
     name: &Name,
+    parent: Option<SortId>,
     rep: Option<Rep>,
     copy: &Option<Name>,
-) -> Result<Items<Declaration>, NoMemory>
-    ensures { IfOk result (λ ds. ds ≡ made ++ Declaration.Sort name.now (written_rep_of rep) copy.now ∷ []) }
+    out: &mut Items<Declaration>,
+) -> Result<(), NoMemory>
+    ensures { OnOk result (out.new ≡ out.old ++ declared_sort (contents theory.now) name.now parent rep copy.now ∷ []) }
 {
-    let sort = sort_decl(alloc, name, rep, copy)?;
-    let mut made = made;
-    made.push(sort)?;
-    Ok(made)
+    out.push(sort_decl(alloc, theory, name, parent, rep, copy)?)?;
+    Ok(())
 }
 
 fn sort_decl(
+    alloc: Global,
+    theory: &Theory,
+    name: &Name,
+    parent: Option<SortId>,
+    rep: Option<Rep>,
+    copy: &Option<Name>,
+) -> Result<Declaration, NoMemory>
+    ensures { IfOk result (λ d. d ≡ declared_sort (contents theory.now) name.now parent rep copy.now) }
+{
+    match parent {
+        None => root_decl(alloc, name, rep, copy),
+        Some(parent) => subsort_decl(alloc, theory, name, parent),
+    }
+}
+
+// The declaration of a sort that is under no other.
+fn root_decl(
     alloc: Global,
     name: &Name,
     rep: Option<Rep>,
     copy: &Option<Name>,
 ) -> Result<Declaration, NoMemory>
-    ensures { IfOk result (λ d. d ≡ Declaration.Sort name.now (written_rep_of rep) copy.now) }
+    ensures { IfOk result (λ d. d ≡ Declaration.Sort name.now (rep_as_written rep) copy.now) }
 {
     let name = Name::new(alloc, name.as_str())?;
     let copy = copy_name(alloc, copy)?;
@@ -89,6 +102,19 @@ fn sort_decl(
         None => None,
     };
     Ok(Declaration::Sort { name, rep, copy })
+}
+
+fn subsort_decl(
+    alloc: Global,
+    theory: &Theory,
+    name: &Name,
+    parent: SortId,
+) -> Result<Declaration, NoMemory>
+    ensures { IfOk result (λ d. d ≡ Declaration.Subsort name.now (sort_name (contents theory.now) parent)) }
+{
+    let name = Name::new(alloc, name.as_str())?;
+    let sort = sort_name(alloc, theory, parent)?;
+    Ok(Declaration::Subsort { name, sort })
 }
 
 fn copy_name(alloc: Global, name: &Option<Name>) -> Result<Option<Name>, NoMemory>
@@ -138,7 +164,8 @@ fn push_symbol(
     symbol: &Symbol,
     out: &mut Items<Declaration>,
 ) -> Result<(), NoMemory>
-    ensures { OnOk result (out.new ≡ out.old ++ symbol_decl (contents theory.now) number (profile symbol.now) symbol.now.kind) }
+    ensures { OnOk result (out.new ≡ out.old ++ symbol_decl (contents theory.now) number
+        (profile symbol.now) symbol.now.kind) }
 {
     match symbol.kind {
         SymKind::Function => push_function(alloc, theory, symbol, out),
@@ -164,7 +191,8 @@ fn push_function(
     symbol: &Symbol,
     out: &mut Items<Declaration>,
 ) -> Result<(), NoMemory>
-    ensures { OnOk result (out.new ≡ out.old ++ Declaration.Function symbol.now.name (sort_names (contents theory.now) symbol.now.args) (result_name (contents theory.now) symbol.now.result) ∷ []) }
+    ensures { OnOk result (out.new ≡ out.old ++ Declaration.Function symbol.now.name
+        (sort_names (contents theory.now) symbol.now.args) (result_name (contents theory.now) symbol.now.result) ∷ []) }
 {
     out.push(function_decl(alloc, theory, symbol)?)?;
     Ok(())
@@ -176,7 +204,8 @@ fn push_relation(
     symbol: &Symbol,
     out: &mut Items<Declaration>,
 ) -> Result<(), NoMemory>
-    ensures { OnOk result (out.new ≡ out.old ++ Declaration.Relation symbol.now.name (sort_names (contents theory.now) symbol.now.args) ∷ []) }
+    ensures { OnOk result (out.new ≡ out.old ++ Declaration.Relation symbol.now.name
+        (sort_names (contents theory.now) symbol.now.args) ∷ []) }
 {
     out.push(relation_decl(alloc, theory, symbol)?)?;
     Ok(())
@@ -189,7 +218,8 @@ fn push_literal(
     literal: Option<&LiteralDecl>,
     out: &mut Items<Declaration>,
 ) -> Result<(), NoMemory>
-    ensures { OnOk result (out.new ≡ out.old ++ literal_decl (contents theory.now) (profile symbol.now) (option_copied literal.entry)) }
+    ensures { OnOk result (out.new ≡ out.old ++ declared_literal (contents theory.now) (profile symbol.now)
+        (option_copied literal.entry)) }
 {
     if let Some(literal) = literal {
         out.push(literal_decl(alloc, theory, symbol, literal)?)?;
@@ -203,7 +233,7 @@ fn push_routine(
     routine: Option<&Routine>,
     out: &mut Items<Declaration>,
 ) -> Result<(), NoMemory>
-    ensures { OnOk result (out.new ≡ out.old ++ routine_decl (contents theory.now) (option_copied routine.entry)) }
+    ensures { OnOk result (out.new ≡ out.old ++ declared_routine (contents theory.now) (option_copied routine.entry)) }
 {
     if let Some(routine) = routine {
         out.push(routine_decl(alloc, theory, routine)?)?;
@@ -218,7 +248,8 @@ fn push_value(
     function: Option<&FortranFunction>,
     out: &mut Items<Declaration>,
 ) -> Result<(), NoMemory>
-    ensures { OnOk result (out.new ≡ out.old ++ value_decl (contents theory.now) (profile symbol.now) (option_copied function.entry)) }
+    ensures { OnOk result (out.new ≡ out.old ++ declared_value (contents theory.now) (profile symbol.now)
+        (option_copied function.entry)) }
 {
     if let Some(function) = function {
         out.push(value_decl(alloc, theory, symbol, function)?)?;
@@ -227,7 +258,8 @@ fn push_value(
 }
 
 fn function_decl(alloc: Global, theory: &Theory, symbol: &Symbol) -> Result<Declaration, NoMemory>
-    ensures { IfOk result (λ d. d ≡ Declaration.Function symbol.now.name (sort_names (contents theory.now) symbol.now.args) (result_name (contents theory.now) symbol.now.result)) }
+    ensures { IfOk result (λ d. d ≡ Declaration.Function symbol.now.name
+        (sort_names (contents theory.now) symbol.now.args) (result_name (contents theory.now) symbol.now.result)) }
 {
     let name = Name::new(alloc, symbol.name.as_str())?;
     let args = sort_names(alloc, theory, symbol.args.as_slice())?;
@@ -236,7 +268,8 @@ fn function_decl(alloc: Global, theory: &Theory, symbol: &Symbol) -> Result<Decl
 }
 
 fn relation_decl(alloc: Global, theory: &Theory, symbol: &Symbol) -> Result<Declaration, NoMemory>
-    ensures { IfOk result (λ d. d ≡ Declaration.Relation symbol.now.name (sort_names (contents theory.now) symbol.now.args)) }
+    ensures { IfOk result (λ d. d ≡ Declaration.Relation symbol.now.name
+        (sort_names (contents theory.now) symbol.now.args)) }
 {
     let name = Name::new(alloc, symbol.name.as_str())?;
     let args = sort_names(alloc, theory, symbol.args.as_slice())?;
@@ -249,7 +282,8 @@ fn literal_decl(
     symbol: &Symbol,
     literal: &LiteralDecl,
 ) -> Result<Declaration, NoMemory>
-    ensures { IfOk result (λ d. literal_decl (contents theory.now) (profile symbol.now) (Some literal.now) ≡ d ∷ []) }
+    ensures { IfOk result (λ d. declared_literal (contents theory.now) (profile symbol.now)
+        (Some literal.now) ≡ d ∷ []) }
 {
     let name = Name::new(alloc, symbol.name.as_str())?;
     let sort = result_name(alloc, theory, symbol.result)?;
@@ -258,7 +292,7 @@ fn literal_decl(
 }
 
 fn routine_decl(alloc: Global, theory: &Theory, routine: &Routine) -> Result<Declaration, NoMemory>
-    ensures { IfOk result (λ d. routine_decl (contents theory.now) (Some routine.now) ≡ d ∷ []) }
+    ensures { IfOk result (λ d. declared_routine (contents theory.now) (Some routine.now) ≡ d ∷ []) }
 {
     let name = Name::new(alloc, routine.name.as_str())?;
     let inputs = sort_names(alloc, theory, routine.inputs.as_slice())?;
@@ -276,7 +310,8 @@ fn value_decl(
     symbol: &Symbol,
     function: &FortranFunction,
 ) -> Result<Declaration, NoMemory>
-    ensures { IfOk result (λ d. value_decl (contents theory.now) (profile symbol.now) (Some function.now) ≡ d ∷ []) }
+    ensures { IfOk result (λ d. declared_value (contents theory.now) (profile symbol.now)
+        (Some function.now) ≡ d ∷ []) }
 {
     let args = sort_names(alloc, theory, symbol.args.as_slice())?;
     let result = result_name(alloc, theory, symbol.result)?;

@@ -16,7 +16,7 @@ pub fn write_theory(alloc: Global, theory: &Theory) -> Result<Vec<u8>, NoMemory>
     ensures { IfOk result (λ out. out.items ≡ canonical_text theory.now) }
 {
     let all = declarations(alloc, theory)?;
-    let first = version_form(alloc)?;
+    let first = version_form(alloc, theory.version)?;
     let mut out = Vec::new(alloc);
     push_line(alloc, &mut out, &first)?;
     push_lines(alloc, &mut out, all.as_slice())?;

@@ -15,7 +15,7 @@ use Rattle.am_theory.specs.Facts.{WellFormed}
 use Rattle.am_diagram.specs.declared.diagram.Diagram.{Diagram}
 use Rattle.am_diagram.specs.Clauses.{goal, givens}
 use Rattle.am_diagram.specs.Facts.{WellFormed as WellDrawn}
-use Rattle.am_diagram.specs.Listed.{sorts_in}
+use Rattle.am_diagram.specs.Listed.{entry_sorts}
 use Rattle.am_diagram.specs.Steps.{formulas_of}
 use Rattle.am_exec.specs.Given.{Given, Spec}
 use Rattle.am_exec.specs.Laws.{IsRightByTerms}
@@ -25,7 +25,7 @@ use Rattle.am_check.specs.Laws.{AcceptedIsRight, ContradictionsRefute}
 use Rattle.am_check.proofs.Meant.{asked, goal-asked}
 
 -- what outputs meet is what the diagram asks for
-meets-spec : (w : Interpretation) (d : Diagram) (ins outs : List ℕ) → Meets w (sorts_in d.objects) (sorts_in d.outputs) d.required ins outs → Spec w d ins outs
+meets-spec : (w : Interpretation) (d : Diagram) (ins outs : List ℕ) → Meets w (entry_sorts d.objects) (entry_sorts d.outputs) d.required ins outs → Spec w d ins outs
 meets-spec w d ins outs m = record { members = m.members; objects = m.others; inside = m.inside; holds = m.holds }
 
 -- under an assignment the values of the answer are what the diagram asks for
@@ -33,20 +33,20 @@ answer-meets : (t : Theory) (d : Diagram) (text : List ℕ) → WellFormed t →
     → (ins : List ℕ) → Given w d ins → (v : Assignment) → IsAssignment t.sig w v → Spec w d ins (values w ins v a.answer)
 answer-meets t d text wt wd a w m ins g v assigned =
     let question = asked t d wt wd w m ins g in
-    let objects = sorts_in d.objects in
-    let outputs = sorts_in d.outputs in
-    let steps = subst (λ (c : Clause). AreSteps t.sig (sorts_in d.inputs) (sources_of (formulas_of t) c (givens d)) [] a.log.rows) (goal-asked d) a.proved in
-    let holds = proof-holds t.sig (formulas_of t) w (sorts_in d.inputs) ins objects outputs d.required (givens d) question a.log.rows steps (length a.log.rows) _ a.ends in
+    let objects = entry_sorts d.objects in
+    let outputs = entry_sorts d.outputs in
+    let steps = subst (λ (c : Clause). AreSteps t.sig (entry_sorts d.inputs) (sources_of (formulas_of t) c (givens d)) [] a.log.rows) (goal-asked d) a.proved in
+    let holds = proof-holds t.sig (formulas_of t) w (entry_sorts d.inputs) ins objects outputs d.required (givens d) question a.log.rows steps (length a.log.rows) _ a.ends in
     meets-spec w d ins (values w ins v a.answer) (last-answers t.sig w ins (Meets w objects outputs d.required ins) _ holds refl a.answer refl v assigned)
 
 -- a last row without literals and without answer leaves no inputs
 pub contradictions-refute : ContradictionsRefute
 contradictions-refute t d rows c wt wd p last empty bare w m ins g =
     let question = asked t d wt wd w m ins g in
-    let objects = sorts_in d.objects in
-    let outputs = sorts_in d.outputs in
-    let steps = subst (λ (x : Clause). AreSteps t.sig (sorts_in d.inputs) (sources_of (formulas_of t) x (givens d)) [] rows) (goal-asked d) p in
-    let holds = proof-holds t.sig (formulas_of t) w (sorts_in d.inputs) ins objects outputs d.required (givens d) question rows steps (length rows) c last in
+    let objects = entry_sorts d.objects in
+    let outputs = entry_sorts d.outputs in
+    let steps = subst (λ (x : Clause). AreSteps t.sig (entry_sorts d.inputs) (sources_of (formulas_of t) x (givens d)) [] rows) (goal-asked d) p in
+    let holds = proof-holds t.sig (formulas_of t) w (entry_sorts d.inputs) ins objects outputs d.required (givens d) question rows steps (length rows) c last in
     last-refutes t.sig w ins (Meets w objects outputs d.required ins) c holds empty m.world bare
 
 -- where units are right by their terms

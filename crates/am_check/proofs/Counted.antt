@@ -7,7 +7,7 @@ use Rattle.std.proofs.lemmas.Grind.{common_steps}
 use Rattle.std.proofs.lemmas.Bool.Decides.{nat_tests}
 use Rattle.am_log.specs.Faults.{lines_in}
 use Rattle.am_log.specs.Groups.{groups as row_groups, onto_first as onto_row}
-use Rattle.am_fortran.specs.Lines.{Line, lines, onto_first, goes_on, onto_group, groups}
+use Rattle.am_fortran.specs.Lines.{Line, lines_of, onto_first, goes_on, onto_group, groups}
 use Rattle.am_fortran.proofs.Grouping.{goes_on_lines}
 use Rattle.am_check.specs.FirstFault.{row_line}
 use Rattle.am_check.specs.Phases.{line_of_group}
@@ -98,14 +98,14 @@ pub ruleset rows_counted = (common_steps, nat_tests, rows_start, rows_none, rows
 
 -- how many lines stand before the group at a place
 unfoldable pub groups_before : ℕ → List ℕ → ℕ
-groups_before left bs = sum_by length (take left (groups (lines bs)))
+groups_before left bs = sum_by length (take left (groups (lines_of bs)))
 
 pub groups_start : (place : ℕ) (unit : List ℕ) → line_of_group unit place ≡ 1 + groups_before place unit
 unfolding groups_before
 groups_start place unit = refl
 
 pub groups_none : (left : ℕ) → groups_before left [] ≡ 0
-unfolding groups_before lines groups
+unfolding groups_before lines_of groups
 groups_none zero = refl
 groups_none (suc left) = refl
 
@@ -142,28 +142,28 @@ unfolding onto_first
 some_onto b [] = omega arith
 some_onto b (l ∷ ls) = omega arith
 
-some_lines : (bs : List ℕ) → 0 < length bs → 0 < length (lines bs)
-unfolding lines
+some_lines : (bs : List ℕ) → 0 < length bs → 0 < length (lines_of bs)
+unfolding lines_of
 some_lines [] h = absurd (omega arith)
-some_lines (b ∷ bs) h = elim (b == 10) as (λ t. 0 < length (if t then record { text = []; ended = true } ∷ lines bs else onto_first b (lines bs))) [ true ↦ omega arith | false ↦ some_onto b (lines bs) ]
+some_lines (b ∷ bs) h = elim (b == 10) as (λ t. 0 < length (if t then record { text = []; ended = true } ∷ lines_of bs else onto_first b (lines_of bs))) [ true ↦ omega arith | false ↦ some_onto b (lines_of bs) ]
 
 pub groups_inside : (left b : ℕ) (bs : List ℕ) → 0 < left → (b == 10) ≡ false → 0 < length bs → groups_before left (b ∷ bs) ≡ groups_before left bs
-unfolding groups_before lines
+unfolding groups_before lines_of
 groups_inside zero b bs h e s = absurd (omega arith)
 groups_inside (suc left) b bs h e s =
-    let f : lines (b ∷ bs) ≡ onto_first b (lines bs) = rw e refl in
-    ap (λ (z : List Line). sum_by length (take (suc left) (groups z))) f ∙ group_inside left b (lines bs) (some_lines bs s)
+    let f : lines_of (b ∷ bs) ≡ onto_first b (lines_of bs) = rw e refl in
+    ap (λ (z : List Line). sum_by length (take (suc left) (groups z))) f ∙ group_inside left b (lines_of bs) (some_lines bs s)
 
 pub groups_last : (left b : ℕ) (bs : List ℕ) → 0 < left → (b == 10) ≡ false → length bs ≡ 0 → groups_before left (b ∷ bs) ≡ 1 + groups_before left bs
-unfolding groups_before lines groups onto_first
+unfolding groups_before lines_of groups onto_first
 groups_last zero b bs h e s = absurd (omega arith)
 groups_last (suc left) b [] h e s =
-    let f : lines (b ∷ []) ≡ record { text = b ∷ []; ended = false } ∷ [] = rw e refl in
+    let f : lines_of (b ∷ []) ≡ record { text = b ∷ []; ended = false } ∷ [] = rw e refl in
     ap (λ (z : List Line). sum_by length (take (suc left) (groups z))) f ∙ group_alone left (record { text = b ∷ []; ended = false }) [] ∙ ap (λ (n : ℕ). 1 + n) (take_none length left)
 groups_last (suc left) b (d ∷ bs) h e s = absurd (omega (arith, s))
 
-ended_line : (b : ℕ) (bs : List ℕ) → (b == 10) ≡ true → lines (b ∷ bs) ≡ record { text = []; ended = true } ∷ lines bs
-unfolding lines
+ended_line : (b : ℕ) (bs : List ℕ) → (b == 10) ≡ true → lines_of (b ∷ bs) ≡ record { text = []; ended = true } ∷ lines_of bs
+unfolding lines_of
 ended_line b bs e = rw e refl
 
 group_with : (l : Line) (ls : List Line) (t : Bool) → goes_on ls ≡ t → groups (l ∷ ls) ≡ (if t then onto_group l (groups ls) else (l ∷ []) ∷ groups ls)
@@ -175,8 +175,8 @@ unfolding groups_before
 groups_more zero b bs h e s = absurd (omega arith)
 groups_more (suc left) b bs h e s =
     ap (λ (z : List Line). sum_by length (take (suc left) (groups z))) (ended_line b bs e)
-    ∙ ap (λ (z : List (List Line)). sum_by length (take (suc left) z)) (group_with (record { text = []; ended = true }) (lines bs) true (goes_on_lines bs ∙ s))
-    ∙ group_onto left (record { text = []; ended = true }) (groups (lines bs))
+    ∙ ap (λ (z : List (List Line)). sum_by length (take (suc left) z)) (group_with (record { text = []; ended = true }) (lines_of bs) true (goes_on_lines bs ∙ s))
+    ∙ group_onto left (record { text = []; ended = true }) (groups (lines_of bs))
 
 pub groups_next : (left b : ℕ) (bs : List ℕ) → 0 < left → (b == 10) ≡ true → starts_with ◌==◌ bs (codes "     .") ≡ false → groups_before left (b ∷ bs) ≡ 1 + groups_before (left - 1) bs
 unfolding groups_before
@@ -184,9 +184,9 @@ groups_next zero b bs h e s = absurd (omega arith)
 groups_next (suc left) b bs h e s =
     let g : suc left - 1 ≡ left = omega arith in
     ap (λ (z : List Line). sum_by length (take (suc left) (groups z))) (ended_line b bs e)
-    ∙ ap (λ (z : List (List Line)). sum_by length (take (suc left) z)) (group_with (record { text = []; ended = true }) (lines bs) false (goes_on_lines bs ∙ s))
-    ∙ group_alone left (record { text = []; ended = true }) (groups (lines bs))
-    ∙ ap (λ (k : ℕ). 1 + sum_by length (take k (groups (lines bs)))) (sym g)
+    ∙ ap (λ (z : List (List Line)). sum_by length (take (suc left) z)) (group_with (record { text = []; ended = true }) (lines_of bs) false (goes_on_lines bs ∙ s))
+    ∙ group_alone left (record { text = []; ended = true }) (groups (lines_of bs))
+    ∙ ap (λ (k : ℕ). 1 + sum_by length (take k (groups (lines_of bs)))) (sym g)
 
 pub ruleset groups_counted = (common_steps, nat_tests, groups_start, groups_none, groups_zero, groups_inside, groups_last, groups_more, groups_next)
 

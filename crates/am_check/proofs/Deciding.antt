@@ -14,8 +14,8 @@ use Rattle.am_diagram.specs.declared.diagram.Diagram.{Diagram}
 use Rattle.am_diagram.specs.Steps.{IsProof}
 use Rattle.am_log.specs.Split.{IsSplit}
 use Rattle.am_log.specs.Text.{log_text}
-use Rattle.am_check.specs.Accepted.{EndsWith, closing, closing_answer, final_answer, Accepted as IsAccepted}
-use Rattle.am_check.specs.FirstFault.{row_line, IsLog, IsProofOf, IsFirstBad, HasBadRow, IsFirstFault}
+use Rattle.am_check.specs.Accepted.{EndsWith, bare_answer, closing_answer, final_answer, Accepted as IsAccepted}
+use Rattle.am_check.specs.FirstFault.{row_line, IsLog, IsProofOf, IsFirstBad, HasBadStep, IsFirstFault}
 use Rattle.am_check.specs.Laws.{HasOneOutcome}
 use Rattle.am_check.specs.Phases.{of_step, Leaves, Stops, StopsAlways, StopsText, IsVerdict}
 use Rattle.am_check.specs.declared.reason.Reason.{Reason}
@@ -41,7 +41,7 @@ ended-with answer = record { literals = []; answer = Some answer }
 abbrev clause-with : List Literal → Option (List Term) → Clause
 clause-with ls a = record { literals = ls; answer = a }
 
-closed-clause : (ls : List Literal) (a : Option (List Term)) (answer : List Term) → closing ls a ≡ Some answer → clause-with ls a ≡ ended-with answer
+closed-clause : (ls : List Literal) (a : Option (List Term)) (answer : List Term) → bare_answer ls a ≡ Some answer → clause-with ls a ≡ ended-with answer
 closed-clause [] a answer e = ap (clause-with []) e
 closed-clause (l ∷ ls) a answer e = absurd cc
 
@@ -57,7 +57,7 @@ final-open rows e answer h = let f : Some answer ≡ None = sym (ap closing_answ
 
 -- ---- faults of the proof part
 
-pub bad-row : (t : Theory) (d : Diagram) (proof : List ℕ) (line : ℕ) (f : StepFault) → HasBadRow t d proof line f → StopsAlways t d proof (Fault line (of_step f))
+pub bad-row : (t : Theory) (d : Diagram) (proof : List ℕ) (line : ℕ) (f : StepFault) → HasBadStep t d proof line f → StopsAlways t d proof (Fault line (of_step f))
 bad-row t d proof line step.NoSuchParent h unit = h
 bad-row t d proof line step.BadPlace h unit = h
 bad-row t d proof line step.BadBindings h unit = h

@@ -15,7 +15,7 @@ use Rattle.am_term.specs.SortedFormula.{is_sorted_formula}
 use Rattle.am_term.proofs.Tests.{or_cases, never_both, or_left}
 use Rattle.am_clause.specs.declared.clause.Clause.{Clause}
 use Rattle.am_clause.specs.Distinct.{among}
-use Rattle.am_clause.specs.Goals.{goal_of, variables_from as numbered_from}
+use Rattle.am_clause.specs.Goals.{goal_of, variables_from as numbered_from, given_clause, negated}
 use Rattle.am_clause.specs.Renaming.{renumbered}
 use Rattle.am_clause.specs.Variables.{Variable, same_variable, occurrences, occurrences_all, in_atom, occurrences-none, occurrences-more}
 use Rattle.am_clause.proofs.Occurring.{among-occurs}
@@ -34,9 +34,9 @@ use Rattle.am_theory.specs.declared.theory.Theory.{Theory}
 use Rattle.am_theory.specs.Facts.{WellFormed, IsAxiom, IsConcrete, IsSort}
 use Rattle.am_theory.specs.Lookups.{known}
 use Rattle.am_diagram.specs.declared.diagram.Diagram.{Diagram}
-use Rattle.am_diagram.specs.Clauses.{negated, variables_from, output_terms, goal, given_clause, givens}
+use Rattle.am_diagram.specs.Clauses.{entry_variables_from, output_terms, goal, givens}
 use Rattle.am_diagram.specs.Facts.{WellFormed as WellDrawn, NoVariable, NoVariables, HasSort, HaveSorts}
-use Rattle.am_diagram.specs.Listed.{sorts_in}
+use Rattle.am_diagram.specs.Listed.{entry_sorts}
 use Rattle.am_diagram.specs.Steps.{formulas_of}
 use Rattle.am_exec.specs.Given.{Given}
 
@@ -98,15 +98,15 @@ concrete-sort t w s c = let h = known-low t.reps s.0 c in omega (arith, h, w.rep
 
 -- ---- the goal and the givens
 
-outputs-numbered : (n : ℕ) (xs : List (List ℕ × SortId)) → variables_from n xs ≡ numbered_from n (sorts_in xs)
+outputs-numbered : (n : ℕ) (xs : List (List ℕ × SortId)) → entry_variables_from n xs ≡ numbered_from n (entry_sorts xs)
 outputs-numbered n [] = refl
 outputs-numbered n (x ∷ xs) = ap (λ (ts : List Term). Var n x.1 ∷ ts) (outputs-numbered (n + 1) xs)
 
-pub goal-asked : (d : Diagram) → goal d ≡ goal_of (sorts_in d.objects) (sorts_in d.outputs) d.required
+pub goal-asked : (d : Diagram) → goal d ≡ goal_of (entry_sorts d.objects) (entry_sorts d.outputs) d.required
 unfolding goal
 goal-asked d =
-    let count : length d.objects ≡ length (sorts_in d.objects) = sym (length-map d.objects (λ (x : List ℕ × SortId). x.1)) in
-    let one : output_terms d ≡ numbered_from (length (sorts_in d.objects)) (sorts_in d.outputs) = outputs-numbered (length d.objects) d.outputs ∙ ap (λ (n : ℕ). numbered_from n (sorts_in d.outputs)) count in
+    let count : length d.objects ≡ length (entry_sorts d.objects) = sym (length-map d.objects (λ (x : List ℕ × SortId). x.1)) in
+    let one : output_terms d ≡ numbered_from (length (entry_sorts d.objects)) (entry_sorts d.outputs) = outputs-numbered (length d.objects) d.outputs ∙ ap (λ (n : ℕ). numbered_from n (entry_sorts d.outputs)) count in
     ap (λ (ts : List Term). renumbered (record { literals = map negated d.required; answer = Some ts })) one
 
 givens-hold : (sig : Signature) (w : Interpretation) (ins : List ℕ) (ls : List Literal) → AllByRecursion (λ (l : Literal). NoVariables l.atom) ls → AllByRecursion (λ (l : Literal). IsTrue (literal_truth w ins (numbered []) l)) ls → AllByRecursion (ClauseHolds sig w ins) (map given_clause ls)
@@ -115,7 +115,7 @@ givens-hold sig w ins (l ∷ ls) h k = (given-holds w ins sig l (none-within (in
 
 -- in a model, for inputs that meet the givens, the question of the diagram is asked
 pub asked : (t : Theory) (d : Diagram) → WellFormed t → WellDrawn t d → (w : Interpretation) → Models t.sig (formulas_of t) w → (ins : List ℕ) → Given w d ins
-    → IsAskedIn t.sig (formulas_of t) w (sorts_in d.inputs) ins (sorts_in d.objects) (sorts_in d.outputs) d.required (givens d)
+    → IsAskedIn t.sig (formulas_of t) w (entry_sorts d.inputs) ins (entry_sorts d.objects) (entry_sorts d.outputs) d.required (givens d)
 unfolding givens
 asked t d wt wd w m ins g = record {
   model = m;
@@ -123,7 +123,7 @@ asked t d wt wd w m ins g = record {
   inside = g.members;
   given = givens-hold t.sig w ins d.givens wd.givens_closed g.facts;
   objects_there = wd.objects_sorted;
-  outputs_there = all-one (IsConcrete t) (IsSortOf t.sig) (concrete-sort t wt) (sorts_in d.outputs) wd.outputs_concrete;
-  posed = all-one (λ (l : Literal). HaveSorts (sorts_in (d.objects ++ d.outputs)) l.atom) (IsPosed (sorts_in d.objects ++ sorts_in d.outputs))
-      (λ l h. subst (λ (ss : List SortId). IsPosed ss l) (map-append (λ (x : List ℕ × SortId). x.1) d.objects d.outputs) (have-sorts-within (sorts_in (d.objects ++ d.outputs)) l.atom h)) d.required wd.required_numbered;
+  outputs_there = all-one (IsConcrete t) (IsSortOf t.sig) (concrete-sort t wt) (entry_sorts d.outputs) wd.outputs_concrete;
+  posed = all-one (λ (l : Literal). HaveSorts (entry_sorts (d.objects ++ d.outputs)) l.atom) (IsPosed (entry_sorts d.objects ++ entry_sorts d.outputs))
+      (λ l h. subst (λ (ss : List SortId). IsPosed ss l) (map-append (λ (x : List ℕ × SortId). x.1) d.objects d.outputs) (have-sorts-within (entry_sorts (d.objects ++ d.outputs)) l.atom h)) d.required wd.required_numbered;
 }

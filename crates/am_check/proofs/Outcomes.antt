@@ -14,7 +14,7 @@ use Rattle.am_theory.specs.declared.theory.Theory.{Theory}
 use Rattle.am_theory.specs.Facts.{WellFormed}
 use Rattle.am_diagram.specs.declared.diagram.Diagram.{Diagram}
 use Rattle.am_diagram.specs.Facts.{WellFormed as WellDrawn}
-use Rattle.am_diagram.specs.Listed.{sorts_in}
+use Rattle.am_diagram.specs.Listed.{entry_sorts}
 use Rattle.am_diagram.specs.Steps.{IsProof, sources}
 use Rattle.am_calculus.specs.Faults.{first_fault}
 use Rattle.am_log.specs.declared.fault.LogKind.{LogKind}
@@ -26,7 +26,7 @@ use Rattle.am_log.specs.Split.{IsSplit, begin_without_c, is_no_c, lines_begin}
 use Rattle.am_log.specs.Text.{byte_limit, log_text, HasText}
 use Rattle.am_fortran.specs.declared.fault.UnitKind.{UnitKind}
 use Rattle.am_fortran.specs.declared.unit.Unit.{Unit as Subroutine}
-use Rattle.am_fortran.specs.Lines.{Line, lines, onto_first}
+use Rattle.am_fortran.specs.Lines.{Line, lines_of, onto_first}
 use Rattle.am_fortran.specs.Text.{unit_text}
 use Rattle.am_fortran.specs.Units.{IsUnit}
 use Rattle.am_fortran.specs.Faults.{IsFault as IsUnitFault}
@@ -37,7 +37,7 @@ use Rattle.am_exec.specs.declared.fault.ExecKind.{ExecKind}
 use Rattle.am_exec.specs.declared.fault.ExecFault.{ExecFault}
 use Rattle.am_exec.specs.Terms.{terms, fault_at}
 use Rattle.am_check.specs.Accepted.{Accepted, EndsWith}
-use Rattle.am_check.specs.FirstFault.{row_line, item_line, end_item, IsLog, IsProofOf, IsTextOf, IsFirstBad, HasBadRow, IsUnfinished, HasBadUnit, HasBadRun, HasOtherTerms, IsFaultOf, IsFirstFault}
+use Rattle.am_check.specs.FirstFault.{row_line, item_line, end_item_number, IsLog, IsProofOf, IsTextOf, IsFirstBad, HasBadStep, IsUnfinished, HasBadUnit, HasBadRun, HasOtherTerms, IsFaultOf, IsFirstFault}
 use Rattle.am_check.specs.Laws.{HasOneOutcome, EachHasOneOutcome}
 use Rattle.am_check.specs.Phases.{of_step}
 use Rattle.am_check.specs.declared.reason.Reason.{Reason}
@@ -88,7 +88,7 @@ bad-within t d rows p q f h b = record {
   before = subst (IsProof t d) (sym (take-take p q rows h)) b.before;
   row = b.row;
   there = get-take p q rows h ∙ b.there;
-  bad = subst (λ (z : List Row). first_fault t.sig (sorts_in d.inputs) (sources t d) z b.row ≡ Some f) (sym (take-take p q rows h)) b.bad;
+  bad = subst (λ (z : List Row). first_fault t.sig (entry_sorts d.inputs) (sources t d) z b.row ≡ Some f) (sym (take-take p q rows h)) b.bad;
 }
 
 one-bad : (t : Theory) (d : Diagram) (rows : List Row) (p q : ℕ) (f g : StepFault) → IsFirstBad t d rows p f → IsFirstBad t d rows q g → (p ≡ q) × (f ≡ g)
@@ -104,7 +104,7 @@ one-bad t d rows p q f g a b = elim (cases_order p q) [
     same-place e =
         let r : Some a.row ≡ Some b.row = sym a.there ∙ ap (slice_get rows) e ∙ b.there in
         let row : a.row ≡ b.row = cc in
-        let x : Some f ≡ Some g = sym a.bad ∙ ap (λ (z : Row). first_fault t.sig (sorts_in d.inputs) (sources t d) (take p rows) z) row ∙ ap (λ (k : ℕ). first_fault t.sig (sorts_in d.inputs) (sources t d) (take k rows) b.row) e ∙ b.bad in
+        let x : Some f ≡ Some g = sym a.bad ∙ ap (λ (z : Row). first_fault t.sig (entry_sorts d.inputs) (sources t d) (take p rows) z) row ∙ ap (λ (k : ℕ). first_fault t.sig (entry_sorts d.inputs) (sources t d) (take k rows) b.row) e ∙ b.bad in
         cc
 
 ends-one : (rows : List Row) (x y : List Term) → EndsWith rows x → EndsWith rows y → x ≡ y
@@ -134,7 +134,7 @@ module _ (t : Theory) (d : Diagram) (proof unit : List ℕ) (laws : LogLaws t d 
   F1 l w = (kind : LogKind) × (w ≡ reason.Log kind) × IsLogFault t d proof l kind
 
   abbrev F2 : Faults
-  F2 l w = (f : StepFault) × (w ≡ of_step f) × HasBadRow t d proof l f
+  F2 l w = (f : StepFault) × (w ≡ of_step f) × HasBadStep t d proof l f
 
   abbrev F3 : Faults
   F3 l w = (w ≡ reason.NotFinal) × IsUnfinished t d proof l
@@ -187,7 +187,7 @@ module _ (t : Theory) (d : Diagram) (proof unit : List ℕ) (laws : LogLaws t d 
   from3 : (l : ℕ) (w : Reason) → P3 → S4 l w → S1 l w
   from3 l w p s = from2 l w (p.1.log, p.1.read, p.1.steps) (inr (p, s))
 
-  row_fault : (l : ℕ) (f : StepFault) → HasBadRow t d proof l f → S1 l (of_step f)
+  row_fault : (l : ℕ) (f : StepFault) → HasBadStep t d proof l f → S1 l (of_step f)
   row_fault l f h = from1 l (of_step f) (h.log, h.read) (inl (f, refl, h))
 
   phased : (l : ℕ) (w : Reason) → IsFaultOf t d proof unit l w → S1 l w
@@ -253,7 +253,7 @@ module _ (t : Theory) (d : Diagram) (proof unit : List ℕ) (laws : LogLaws t d 
   not5 p l w a = let e : Ok p.1 ≡ Err (fault_at a.2.item a.0) = sym p.3 ∙ ap (λ (u : Subroutine). terms t d u) (same-unit p.0 a.2.run p.2 a.2.read) ∙ a.2.fault in absurd cc
 
   one6 : One F6
-  one6 l m w v a b = (a.1.begins ∙ ap (λ (u : Subroutine). lines_in proof + item_line unit (end_item u)) (same-unit a.1.run b.1.run a.1.read b.1.read) ∙ sym b.1.begins, a.0 ∙ sym b.0)
+  one6 l m w v a b = (a.1.begins ∙ ap (λ (u : Subroutine). lines_in proof + item_line unit (end_item_number u)) (same-unit a.1.run b.1.run a.1.read b.1.read) ∙ sym b.1.begins, a.0 ∙ sym b.0)
 
   -- two first faults are one
   pub one-outcome : (l m : ℕ) (w v : Reason) → IsFaultOf t d proof unit l w → IsFaultOf t d proof unit m v → (l ≡ m) × (w ≡ v)
@@ -306,19 +306,19 @@ onto-plain b (l ∷ ls) h = (λ e. h.0 (ap Some e), h.1)
 no-c : (b : ℕ) → (b ≡ 67 → ⊥) → is_no_c b ≡ true
 no-c b h = grind (arith, nat_tests)
 
-lines-step : (b : ℕ) (bs : List ℕ) → ((s : Bool) → begins-so s (lines bs) → lines_begin is_no_c s bs ≡ true) → (s t : Bool) → (b == 10) ≡ t → begins-so s (if t then record { text = []; ended = true } ∷ lines bs else onto_first b (lines bs)) → lines_begin is_no_c s (b ∷ bs) ≡ true
+lines-step : (b : ℕ) (bs : List ℕ) → ((s : Bool) → begins-so s (lines_of bs) → lines_begin is_no_c s bs ≡ true) → (s t : Bool) → (b == 10) ≡ t → begins-so s (if t then record { text = []; ended = true } ∷ lines_of bs else onto_first b (lines_of bs)) → lines_begin is_no_c s (b ∷ bs) ≡ true
 lines-step b bs k true true e h = rw (no-c b (λ c. omega (arith, c, eqb-true b 10 e)), e) (k true h.1)
 lines-step b bs k false true e h = rw e (k true h)
-lines-step b bs k true false e h = let p = onto-plain b (lines bs) h in rw (no-c b p.0, e) (k false p.1)
-lines-step b bs k false false e h = rw e (k false (subst (AllByRecursion plain-line) (onto-rest b (lines bs)) h))
+lines-step b bs k true false e h = let p = onto-plain b (lines_of bs) h in rw (no-c b p.0, e) (k false p.1)
+lines-step b bs k false false e h = rw e (k false (subst (AllByRecursion plain-line) (onto-rest b (lines_of bs)) h))
 
-lines-without : (bs : List ℕ) (start : Bool) → begins-so start (lines bs) → lines_begin is_no_c start bs ≡ true
-unfolding lines
+lines-without : (bs : List ℕ) (start : Bool) → begins-so start (lines_of bs) → lines_begin is_no_c start bs ≡ true
+unfolding lines_of
 lines-without [] start h = refl
 lines-without (b ∷ bs) start h = lines-step b bs (lines-without bs) start (b == 10) refl h
 
 pub unit-without : (u : Subroutine) → IsUnit u → begin_without_c (unit_text u) ≡ true
-unit-without u h = let f = fits_card u h in lines-without (unit_text u) true (all-from (lines (unit_text u)) (λ k e l. (f.columns k e l).no_comment))
+unit-without u h = let f = fits_card u h in lines-without (unit_text u) true (all-from (lines_of (unit_text u)) (λ k e l. (f.columns k e l).no_comment))
 
 -- ---- one fault of a log
 

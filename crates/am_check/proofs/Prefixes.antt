@@ -11,11 +11,11 @@ use Rattle.am_term.specs.Names.{is_fortran_name, is_fortran_byte, is_upper}
 use Rattle.am_theory.specs.declared.theory.Theory.{Theory}
 use Rattle.am_diagram.specs.declared.diagram.Diagram.{Diagram}
 use Rattle.am_log.specs.Laws.{OneSplit, LogIsTheProofPart}
-use Rattle.am_log.specs.Split.{IsSplit, starts_with_c, is_none, ends_line}
+use Rattle.am_log.specs.Split.{IsSplit, starts_with_c, no_bytes, ends_line}
 use Rattle.am_log.specs.Text.{log_text}
 use Rattle.am_fortran.specs.Items.{is_item, item_text}
-use Rattle.am_fortran.specs.Lines.{Line, lines, onto_first, is_continuation}
-use Rattle.am_fortran.specs.Text.{line, listed, continued, with_list, type_text, extents_text, operand_text, declaration_text, statement_text, head_text, unit_text}
+use Rattle.am_fortran.specs.Lines.{Line, lines_of, onto_first, is_continuation}
+use Rattle.am_fortran.specs.Text.{line, with_commas, continued, with_list, type_text, extents_text, operand_text, declaration_text, statement_text, head_text, unit_text}
 use Rattle.am_fortran.specs.Units.{IsUnit, unit_items}
 use Rattle.am_fortran.specs.Well.{is_statement}
 use Rattle.am_fortran.specs.declared.item.Item.{Item}
@@ -42,9 +42,9 @@ pub record EndsAt (z : List ℕ) : Type 0 where
 other-byte : (z : List ℕ) (k b : ℕ) → EndsAt z → get_or z k 0 ≡ b → ((rest : List ℕ) → b ≡ get_or (codes "      END" ++ 10 ∷ rest) k 0 → ⊥) → ⊥
 other-byte z k b e g n = n e.rest (sym g ∙ ap (λ (x : List ℕ). get_or x k 0) e.is)
 
-pub with-either : (P : List ℕ → Type 0) (front : List ℕ) (ms : List (List ℕ)) → P (line (front ++ listed ms ++ codes ")")) → P (line front ++ continued ms) → P (with_list front ms)
+pub with-either : (P : List ℕ → Type 0) (front : List ℕ) (ms : List (List ℕ)) → P (line (front ++ with_commas ms ++ codes ")")) → P (line front ++ continued ms) → P (with_list front ms)
 unfolding with_list
-with-either P front ms a b = elim (nat_le (6 + length (front ++ listed ms ++ codes ")")) 72) as (λ t. P (if t then line (front ++ listed ms ++ codes ")") else line front ++ continued ms)) [ true ↦ a | false ↦ b ]
+with-either P front ms a b = elim (nat_le (6 + length (front ++ with_commas ms ++ codes ")")) 72) as (λ t. P (if t then line (front ++ with_commas ms ++ codes ")") else line front ++ continued ms)) [ true ↦ a | false ↦ b ]
 
 -- the first byte behind the blanks is another
 not-head : (n : List ℕ) (ds : List (List ℕ)) → EndsAt (head_text n ds) → ⊥
@@ -96,7 +96,7 @@ not-assign t from h e = not-named t _ h (subst EndsAt (ap (λ (z : List ℕ). co
 not-apply : (t f : List ℕ) (ms : List (List ℕ)) → is_fortran_name t ≡ true → EndsAt (with_list (t ++ codes " = " ++ f ++ codes "(") ms) → ⊥
 unfolding line
 not-apply t f ms h = with-either (λ z. EndsAt z → ⊥) (t ++ codes " = " ++ f ++ codes "(") ms
-    (λ e. not-named t _ h (subst EndsAt (ap (λ (z : List ℕ). codes "      " ++ z) (ap (λ (z : List ℕ). z ++ 10 ∷ []) (append_assoc (t ++ codes " = " ++ f ++ codes "(") (listed ms) (codes ")")) ∙ append_assoc (t ++ codes " = " ++ f ++ codes "(") (listed ms ++ codes ")") (10 ∷ []) ∙ four t (codes " = ") f (codes "(") ((listed ms ++ codes ")") ++ 10 ∷ []))) e))
+    (λ e. not-named t _ h (subst EndsAt (ap (λ (z : List ℕ). codes "      " ++ z) (ap (λ (z : List ℕ). z ++ 10 ∷ []) (append_assoc (t ++ codes " = " ++ f ++ codes "(") (with_commas ms) (codes ")")) ∙ append_assoc (t ++ codes " = " ++ f ++ codes "(") (with_commas ms ++ codes ")") (10 ∷ []) ∙ four t (codes " = ") f (codes "(") ((with_commas ms ++ codes ")") ++ 10 ∷ []))) e))
     (λ e. not-named t _ h (subst EndsAt (ap (λ (z : List ℕ). codes "      " ++ z) (append_assoc (t ++ codes " = " ++ f ++ codes "(") (10 ∷ []) (continued ms) ∙ four t (codes " = ") f (codes "(") (10 ∷ [] ++ continued ms))) e))
 
 not-stated : (s : Statement) → is_statement s ≡ true → EndsAt (statement_text s) → ⊥
@@ -143,14 +143,14 @@ all-append : {X : Type 0} (P : X → Type 0) (xs ys : List X) → AllByRecursion
 all-append P [] ys h k = k
 all-append P (x ∷ xs) ys h k = (h.0, all-append P xs ys h.1 k)
 
-items-lines : (is : List Item) (rest : List ℕ) → list_all is_item is ≡ true → lines (flat_map item_text is ++ rest) ≡ flat_map item_group is ++ lines rest
+items-lines : (is : List Item) (rest : List ℕ) → list_all is_item is ≡ true → lines_of (flat_map item_text is ++ rest) ≡ flat_map item_group is ++ lines_of rest
 items-lines [] rest h = refl
 items-lines (i ∷ is) rest h =
     let p = and_parts (is_item i) (list_all is_item is) h in
-    ap lines (append_assoc (item_text i) (flat_map item_text is) rest)
+    ap lines_of (append_assoc (item_text i) (flat_map item_text is) rest)
     ∙ statement_split (item_text i) (flat_map item_text is ++ rest) (item_statement i p.0)
     ∙ ap (λ (z : List Line). item_group i ++ z) (items-lines is rest p.1)
-    ∙ sym (append_assoc (item_group i) (flat_map item_group is) (lines rest))
+    ∙ sym (append_assoc (item_group i) (flat_map item_group is) (lines_of rest))
 
 items-other : (is : List Item) → AllByRecursion Inner is → list_all is_item is ≡ true → AllByRecursion Other (flat_map item_group is)
 items-other [] q h = tt
@@ -182,10 +182,10 @@ all-front (i ∷ is) js h = let p = and_parts (is_item i) (list_all is_item (is 
 pub record UnitLines (u : Subroutine) (more : List ℕ) : Type 0 where
   pub front : List Line
   pub others : AllByRecursion Other front
-  pub are : lines (unit_text u ++ more) ≡ front ++ end_of_unit ∷ lines more
+  pub are : lines_of (unit_text u ++ more) ≡ front ++ end_of_unit ∷ lines_of more
 
-end-lines : (more : List ℕ) → lines (item_text End ++ more) ≡ end_of_unit ∷ lines more
-unfolding item_text line lines onto_first
+end-lines : (more : List ℕ) → lines_of (item_text End ++ more) ≡ end_of_unit ∷ lines_of more
+unfolding item_text line lines_of onto_first
 end-lines more = refl
 
 unit-lines : (u : Subroutine) → IsUnit u → (more : List ℕ) → UnitLines u more
@@ -197,7 +197,7 @@ unit-lines u h more =
     record {
       front = flat_map item_group (front-of u);
       others = items-other (front-of u) (front-inner u) well;
-      are = ap lines text ∙ items-lines (front-of u) (item_text End ++ more) well ∙ ap (λ (z : List Line). flat_map item_group (front-of u) ++ z) (end-lines more);
+      are = ap lines_of text ∙ items-lines (front-of u) (item_text End ++ more) well ∙ ap (λ (z : List Line). flat_map item_group (front-of u) ++ z) (end-lines more);
     }
 
 first-end : (ks bs : List Line) (zs : List Line) → AllByRecursion Other ks → ks ++ end_of_unit ∷ [] ≡ bs ++ end_of_unit ∷ zs → zs ≡ []
@@ -212,15 +212,15 @@ unfolding onto_first
 not-onto b [] e = absurd cc
 not-onto b (l ∷ ls) e = absurd cc
 
-some-onto : (b : ℕ) (bs : List ℕ) → lines (b ∷ bs) ≢ []
-unfolding lines
-some-onto b bs = elim (b == 10) as (λ t. (if t then record { text = []; ended = true } ∷ lines bs else onto_first b (lines bs)) ≡ [] → ⊥) [ true ↦ λ e. absurd cc | false ↦ not-onto b (lines bs) ]
+some-onto : (b : ℕ) (bs : List ℕ) → lines_of (b ∷ bs) ≢ []
+unfolding lines_of
+some-onto b bs = elim (b == 10) as (λ t. (if t then record { text = []; ended = true } ∷ lines_of bs else onto_first b (lines_of bs)) ≡ [] → ⊥) [ true ↦ λ e. absurd cc | false ↦ not-onto b (lines_of bs) ]
 
-none-lines : lines [] ≡ []
-unfolding lines
+none-lines : lines_of [] ≡ []
+unfolding lines_of
 none-lines = refl
 
-no-lines : (bs : List ℕ) → lines bs ≡ [] → bs ≡ []
+no-lines : (bs : List ℕ) → lines_of bs ≡ [] → bs ≡ []
 no-lines [] e = refl
 no-lines (b ∷ bs) e = absurd (some-onto b bs e)
 
@@ -228,8 +228,8 @@ pub unit-prefix : (u v : Subroutine) → IsUnit u → IsUnit v → (more : List 
 unit-prefix u v h k more e =
     let a = unit-lines u h [] in
     let b = unit-lines v k more in
-    let same : a.front ++ end_of_unit ∷ lines [] ≡ b.front ++ end_of_unit ∷ lines more = sym a.are ∙ ap lines (append-nil (unit_text u) ∙ e) ∙ b.are in
-    no-lines more (first-end a.front b.front (lines more) a.others (ap (λ (z : List Line). a.front ++ end_of_unit ∷ z) (sym none-lines) ∙ same))
+    let same : a.front ++ end_of_unit ∷ lines_of [] ≡ b.front ++ end_of_unit ∷ lines_of more = sym a.are ∙ ap lines_of (append-nil (unit_text u) ∙ e) ∙ b.are in
+    no-lines more (first-end a.front b.front (lines_of more) a.others (ap (λ (z : List Line). a.front ++ end_of_unit ∷ z) (sym none-lines) ∙ same))
 
 -- ---- the text
 
@@ -240,8 +240,8 @@ not-empty (x ∷ xs) y ys e = absurd cc
 unit-some : (u : Subroutine) → IsUnit u → unit_text u ≢ []
 unit-some u h e =
     let a = unit-lines u h [] in
-    let n : a.front ++ end_of_unit ∷ lines [] ≡ lines [] = sym a.are ∙ ap (λ (z : List ℕ). lines (z ++ [])) e in
-    not-empty a.front end_of_unit (lines []) (n ∙ none-lines)
+    let n : a.front ++ end_of_unit ∷ lines_of [] ≡ lines_of [] = sym a.are ∙ ap (λ (z : List ℕ). lines_of (z ++ [])) e in
+    not-empty a.front end_of_unit (lines_of []) (n ∙ none-lines)
 
 split-longer : (text proof unit more : List ℕ) → unit ≢ [] → IsSplit text proof unit → IsSplit (text ++ more) proof (unit ++ more)
 split-longer text proof [] more n s = absurd (n refl)

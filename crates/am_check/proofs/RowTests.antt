@@ -11,7 +11,7 @@ use Rattle.am_clause.specs.Steps.{AreSteps}
 use Rattle.am_calculus.specs.declared.fault.StepFault.{StepFault}
 use Rattle.am_theory.specs.declared.theory.Theory.{Theory}
 use Rattle.am_diagram.specs.declared.diagram.Diagram.{Diagram}
-use Rattle.am_diagram.specs.Listed.{sorts_in}
+use Rattle.am_diagram.specs.Listed.{entry_sorts}
 use Rattle.am_diagram.specs.Steps.{IsProof, sources}
 use Rattle.am_check.specs.FirstFault.{IsFirstBad}
 use Rattle.am_check.specs.Phases.{AreSorted, are_sorted}
@@ -26,19 +26,19 @@ and_both true b e f = f
 and_both false b e f = absurd cc
 
 -- rows that pass the test are well sorted
-pub passed-sorted : (t : Theory) (d : Diagram) (rows : List Row) → are_sorted t.sig (sorts_in d.inputs) rows ≡ true → AreSorted t d rows
+pub passed-sorted : (t : Theory) (d : Diagram) (rows : List Row) → are_sorted t.sig (entry_sorts d.inputs) rows ≡ true → AreSorted t d rows
 passed-sorted t d [] e = tt
 passed-sorted t d (r ∷ rows) e =
-    let first = is_sorted_clause t.sig (sorts_in d.inputs) r.clause in
-    let more = are_sorted t.sig (sorts_in d.inputs) rows in
+    let first = is_sorted_clause t.sig (entry_sorts d.inputs) r.clause in
+    let more = are_sorted t.sig (entry_sorts d.inputs) rows in
     (and_left first more e, passed-sorted t d rows (and_right first more e))
 
-steps-sorted : (t : Theory) (d : Diagram) (before rows : List Row) → AreSteps t.sig (sorts_in d.inputs) (sources t d) before rows → are_sorted t.sig (sorts_in d.inputs) rows ≡ true
+steps-sorted : (t : Theory) (d : Diagram) (before rows : List Row) → AreSteps t.sig (entry_sorts d.inputs) (sources t d) before rows → are_sorted t.sig (entry_sorts d.inputs) rows ≡ true
 steps-sorted t d before [] s = refl
-steps-sorted t d before (r ∷ rows) s = and_both (is_sorted_clause t.sig (sorts_in d.inputs) r.clause) (are_sorted t.sig (sorts_in d.inputs) rows) s.0.sorted (steps-sorted t d _ rows s.1)
+steps-sorted t d before (r ∷ rows) s = and_both (is_sorted_clause t.sig (entry_sorts d.inputs) r.clause) (are_sorted t.sig (entry_sorts d.inputs) rows) s.0.sorted (steps-sorted t d _ rows s.1)
 
 -- the rows of a proof pass the test, so others are none
-pub unsorted : (t : Theory) (d : Diagram) (rows : List Row) → are_sorted t.sig (sorts_in d.inputs) rows ≡ false → IsTrue false ↔ IsProof t d rows
+pub unsorted : (t : Theory) (d : Diagram) (rows : List Row) → are_sorted t.sig (entry_sorts d.inputs) rows ≡ false → IsTrue false ↔ IsProof t d rows
 unsorted t d rows e = (λ f. absurd cc, λ p. let clash : false ≡ true = sym e ∙ steps-sorted t d [] rows p in absurd cc)
 
 -- rows without a first bad one are a proof, and a proof has none

@@ -22,7 +22,7 @@ use Rattle.am_calculus.proofs.Faultless.{faultless, step-faultless}
 use Rattle.am_calculus.proofs.Lists.{member-map}
 use Rattle.am_theory.specs.declared.theory.Theory.{Theory}
 use Rattle.am_diagram.specs.declared.diagram.Diagram.{Diagram}
-use Rattle.am_diagram.specs.Listed.{sorts_in}
+use Rattle.am_diagram.specs.Listed.{entry_sorts}
 use Rattle.am_diagram.specs.Steps.{sources, IsProof}
 use Rattle.am_log.specs.Text.{AreWritable}
 use Rattle.am_check.specs.FirstFault.{IsFirstBad}
@@ -66,31 +66,31 @@ take-one [] k x e = absurd cc
 take-one (y ∷ ys) zero x e = let one : y ≡ x = cc in ap (λ z. z ∷ []) one
 take-one (y ∷ ys) (suc k) x e = ap (λ z. y ∷ z) (take-one ys k x e)
 
-sorted-at : (t : Theory) (d : Diagram) (rows : List Row) (k : ℕ) (row : Row) → AreSorted t d rows → slice_get rows k ≡ Some row → IsTrue (is_sorted_clause t.sig (sorts_in d.inputs) row.clause)
+sorted-at : (t : Theory) (d : Diagram) (rows : List Row) (k : ℕ) (row : Row) → AreSorted t d rows → slice_get rows k ≡ Some row → IsTrue (is_sorted_clause t.sig (entry_sorts d.inputs) row.clause)
 sorted-at t d [] k row s e = absurd cc
-sorted-at t d (r ∷ rows) zero row s e = let one : r ≡ row = cc in subst (λ (z : Row). IsTrue (is_sorted_clause t.sig (sorts_in d.inputs) z.clause)) one s.0
+sorted-at t d (r ∷ rows) zero row s e = let one : r ≡ row = cc in subst (λ (z : Row). IsTrue (is_sorted_clause t.sig (entry_sorts d.inputs) z.clause)) one s.0
 sorted-at t d (r ∷ rows) (suc k) row s e = sorted-at t d rows k row s.1 e
 
 -- behind steps a row without fault is a step
 pub proof-more : (t : Theory) (d : Diagram) (rows : List Row) (k : ℕ) (row : Row) → AreSorted t d rows → slice_get rows k ≡ Some row → IsProof t d (take k rows)
-    → first_fault t.sig (sorts_in d.inputs) (sources t d) (take k rows) row ≡ None → IsProof t d (take (suc k) rows)
+    → first_fault t.sig (entry_sorts d.inputs) (sources t d) (take k rows) row ≡ None → IsProof t d (take (suc k) rows)
 proof-more t d rows k row s e h f =
-    let step = faultless t.sig (sorts_in d.inputs) (sources t d) (take k rows) row (sorted-at t d rows k row s e) f in
-    subst (IsProof t d) (sym (take-one rows k row e)) (steps-more t.sig (sorts_in d.inputs) (sources t d) [] (take k rows) row h step)
+    let step = faultless t.sig (entry_sorts d.inputs) (sources t d) (take k rows) row (sorted-at t d rows k row s e) f in
+    subst (IsProof t d) (sym (take-one rows k row e)) (steps-more t.sig (entry_sorts d.inputs) (sources t d) [] (take k rows) row h step)
 
 -- the rows of a log that has a text are well sorted
 pub written-sorted : (t : Theory) (d : Diagram) (k : ℕ) (rows : List Row) → AreWritable t d k rows → AreSorted t d rows
 written-sorted t d k [] w = tt
-written-sorted t d k (r ∷ rows) w = (and_right _ (is_sorted_clause t.sig (sorts_in d.inputs) r.clause) w.0.sorted, written-sorted t d (k + 1) rows w.1)
+written-sorted t d k (r ∷ rows) w = (and_right _ (is_sorted_clause t.sig (entry_sorts d.inputs) r.clause) w.0.sorted, written-sorted t d (k + 1) rows w.1)
 
 -- in a proof no row is the first bad one
 pub proof-good : (t : Theory) (d : Diagram) (rows : List Row) (place : ℕ) (fault : StepFault) → IsProof t d rows → IsFirstBad t d rows place fault → ⊥
 proof-good t d rows place fault h b =
-    let step = steps-at t.sig (sorts_in d.inputs) (sources t d) [] rows place b.row h b.there in
-    let none = step-faultless t.sig (sorts_in d.inputs) (sources t d) (take place rows) b.row step in
+    let step = steps-at t.sig (entry_sorts d.inputs) (sources t d) [] rows place b.row h b.there in
+    let none = step-faultless t.sig (entry_sorts d.inputs) (sources t d) (take place rows) b.row step in
     let clash : Some fault ≡ None = sym b.bad ∙ none in absurd cc
 
 -- the same, by the row's place among the rows
 pub proof-next : (t : Theory) (d : Diagram) (rows : List Row) (k : ℕ) (row : Row) → AreSorted t d rows → k < length rows → row ≡ get_or rows k row → IsProof t d (take k rows)
-    → first_fault t.sig (sorts_in d.inputs) (sources t d) (take k rows) row ≡ None → IsProof t d (take (k + 1) rows)
+    → first_fault t.sig (entry_sorts d.inputs) (sources t d) (take k rows) row ≡ None → IsProof t d (take (k + 1) rows)
 proof-next t d rows k row s l e h f = let n : suc k ≡ k + 1 = omega arith in subst (λ (m : ℕ). IsProof t d (take m rows)) n (proof-more t d rows k row s (slice_get_read rows (length rows) k row refl l e) h f)

@@ -12,12 +12,12 @@ use Rattle.am_fortran.specs.declared.statement.Statement.{Statement}
 use Rattle.am_fortran.specs.declared.statement.Statement.TheVariants.{Call, Assign, Apply}
 use Rattle.am_fortran.specs.declared.unit.Unit.{Unit as Subroutine}
 use Rattle.am_fortran.specs.Faults.{IsFault}
-use Rattle.am_fortran.specs.Text.{line, listed, continued, with_list, operand_text, declaration_text, statement_text, head_text, unit_text}
+use Rattle.am_fortran.specs.Text.{line, with_commas, continued, with_list, operand_text, declaration_text, statement_text, head_text, unit_text}
 use Rattle.am_exec.specs.declared.fault.ExecKind.{ExecKind}
 use Rattle.am_exec.specs.declared.fault.ExecKind.TheVariants.{NoMemory}
 use Rattle.am_exec.specs.declared.fault.ExecFault.{ExecFault}
 use Rattle.am_exec.specs.Terms.{terms, fault_at, no_memory, IsAnswer}
-use Rattle.am_check.specs.FirstFault.{item_line, end_item, IsProofOf, IsTextOf, HasBadRun, HasOtherTerms}
+use Rattle.am_check.specs.FirstFault.{item_line, end_item_number, IsProofOf, IsTextOf, HasBadRun, HasOtherTerms}
 use Rattle.am_check.specs.Phases.{line_of_group, Leaves}
 use Rattle.am_check.proofs.Counted.{groups_before, groups_start, groups_few}
 use Rattle.am_check.proofs.Prefixes.{with-either}
@@ -31,7 +31,7 @@ unfolding line
 some-more s more = omega arith
 
 some-list : (front : List ℕ) (ms : List (List ℕ)) → 0 < length (with_list front ms)
-some-list front ms = with-either (λ z. 0 < length z) front ms (some-line (front ++ listed ms ++ codes ")")) (some-more front (continued ms))
+some-list front ms = with-either (λ z. 0 < length z) front ms (some-line (front ++ with_commas ms ++ codes ")")) (some-more front (continued ms))
 
 some-declaration : (d : Decl) → 0 < length (declaration_text d)
 unfolding declaration_text
@@ -86,7 +86,7 @@ other-terms t d proof unit run answer ts a b m n p r e s f i j g = record {
   gives = ts;
   leaves = e;
   other = s;
-  begins = begins-at unit (lines_in proof) a b (m + n + 1) (end_item run) f g (omega (arith, i, j));
+  begins = begins-at unit (lines_in proof) a b (m + n + 1) (end_item_number run) f g (omega (arith, i, j));
 }
 
 pub bad-run : (t : Theory) (d : Diagram) (proof unit : List ℕ) (run : Subroutine) (answer : List Term) (fault : ExecFault) (a b k : ℕ) → IsProofOf t d proof answer → IsTextOf unit run → IsAnswer (Err fault) (terms t d run) → fault.kind ≢ NoMemory

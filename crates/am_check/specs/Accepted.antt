@@ -24,13 +24,13 @@ abbrev pub EndsEmpty : List Row → Type 0
 EndsEmpty rows = clause_at rows (length rows) ≡ Some (record { literals = []; answer = None })
 
 -- the answer behind no literals
-abbrev pub closing : List Literal → Option (List Term) → Option (List Term)
-closing [] answer = answer
-closing (l ∷ ls) answer = None
+abbrev pub bare_answer : List Literal → Option (List Term) → Option (List Term)
+bare_answer [] answer = answer
+bare_answer (l ∷ ls) answer = None
 
 abbrev pub closing_answer : Option Clause → Option (List Term)
 closing_answer None = None
-closing_answer (Some c) = closing c.literals c.answer
+closing_answer (Some c) = bare_answer c.literals c.answer
 
 -- the answer of the last row, where that has no literals
 abbrev pub final_answer : List Row → Option (List Term)

@@ -11,7 +11,7 @@ use Rattle.am_calculus.specs.declared.fault.StepFault.TheVariants as step
 use Rattle.am_calculus.specs.Faults.{first_fault}
 use Rattle.am_theory.specs.declared.theory.Theory.{Theory}
 use Rattle.am_diagram.specs.declared.diagram.Diagram.{Diagram}
-use Rattle.am_diagram.specs.Listed.{sorts_in}
+use Rattle.am_diagram.specs.Listed.{entry_sorts}
 use Rattle.am_diagram.specs.Steps.{IsProof, sources}
 use Rattle.am_log.specs.Faults.{line_at, lines_in, IsFault as IsLogFault}
 use Rattle.am_log.specs.Groups.{groups as row_groups}
@@ -20,7 +20,7 @@ use Rattle.am_log.specs.Text.{log_text, HasText}
 use Rattle.am_fortran.specs.declared.fault.UnitKind.{UnitKind}
 use Rattle.am_fortran.specs.declared.unit.Unit.{Unit as Subroutine}
 use Rattle.am_fortran.specs.Faults.{IsFault as IsUnitFault}
-use Rattle.am_fortran.specs.Lines.{lines, groups, first_line}
+use Rattle.am_fortran.specs.Lines.{lines_of, groups, first_line}
 use Rattle.am_fortran.specs.Text.{unit_text}
 use Rattle.am_fortran.specs.Units.{IsUnit}
 use Rattle.am_exec.specs.declared.fault.ExecKind.{ExecKind}
@@ -38,11 +38,11 @@ row_line proof number = line_at (row_groups proof) number
 
 -- the first line of the item of this number, from 1, counted from the start of the unit part
 abbrev pub item_line : List ℕ → ℕ → ℕ
-item_line unit item = first_line (groups (lines unit)) (item - 1)
+item_line unit item = first_line (groups (lines_of unit)) (item - 1)
 
 -- the number of the item that ends the unit: the head, the declarations and the statements stand before it
-abbrev pub end_item : Subroutine → ℕ
-end_item u = length u.declarations + length u.statements + 2
+abbrev pub end_item_number : Subroutine → ℕ
+end_item_number u = length u.declarations + length u.statements + 2
 
 -- ---- phases without fault
 
@@ -70,10 +70,10 @@ pub record IsFirstBad (t : Theory) (d : Diagram) (rows : List Row) (place : ℕ)
   pub before : IsProof t d (take place rows)
   pub row : Row
   pub there : slice_get rows place ≡ Some row
-  pub bad : first_fault t.sig (sorts_in d.inputs) (sources t d) (take place rows) row ≡ Some fault
+  pub bad : first_fault t.sig (entry_sorts d.inputs) (sources t d) (take place rows) row ≡ Some fault
 
 -- some row is no step; the line is the first one's
-pub record HasBadRow (t : Theory) (d : Diagram) (proof : List ℕ) (line : ℕ) (fault : StepFault) : Type 0 where
+pub record HasBadStep (t : Theory) (d : Diagram) (proof : List ℕ) (line : ℕ) (fault : StepFault) : Type 0 where
   pub log : Log
   pub read : IsLog t d proof log
   pub place : ℕ
@@ -118,17 +118,17 @@ pub record HasOtherTerms (t : Theory) (d : Diagram) (proof unit : List ℕ) (lin
   pub gives : List Term
   pub leaves : terms t d run ≡ Ok gives
   pub other : gives ≢ answer
-  pub begins : line ≡ lines_in proof + item_line unit (end_item run)
+  pub begins : line ≡ lines_in proof + item_line unit (end_item_number run)
 
 -- the first fault of a proof part and a unit part stands at this line, for this reason
 abbrev pub IsFaultOf : Theory → Diagram → List ℕ → List ℕ → ℕ → Reason → Type 0
 IsFaultOf t d proof unit line (reason.Log kind) = IsLogFault t d proof line kind
-IsFaultOf t d proof unit line reason.NoSuchParent = HasBadRow t d proof line step.NoSuchParent
-IsFaultOf t d proof unit line reason.BadPlace = HasBadRow t d proof line step.BadPlace
-IsFaultOf t d proof unit line reason.BadBindings = HasBadRow t d proof line step.BadBindings
-IsFaultOf t d proof unit line reason.NotEqual = HasBadRow t d proof line step.NotEqual
-IsFaultOf t d proof unit line reason.AnswersDiffer = HasBadRow t d proof line step.AnswersDiffer
-IsFaultOf t d proof unit line reason.WrongConclusion = HasBadRow t d proof line step.WrongConclusion
+IsFaultOf t d proof unit line reason.NoSuchParent = HasBadStep t d proof line step.NoSuchParent
+IsFaultOf t d proof unit line reason.BadPlace = HasBadStep t d proof line step.BadPlace
+IsFaultOf t d proof unit line reason.BadBindings = HasBadStep t d proof line step.BadBindings
+IsFaultOf t d proof unit line reason.NotEqual = HasBadStep t d proof line step.NotEqual
+IsFaultOf t d proof unit line reason.AnswersDiffer = HasBadStep t d proof line step.AnswersDiffer
+IsFaultOf t d proof unit line reason.WrongConclusion = HasBadStep t d proof line step.WrongConclusion
 IsFaultOf t d proof unit line reason.NotFinal = IsUnfinished t d proof line
 IsFaultOf t d proof unit line (reason.Unit kind) = HasBadUnit t d proof unit line kind
 IsFaultOf t d proof unit line (reason.Exec kind) = HasBadRun t d proof unit line kind

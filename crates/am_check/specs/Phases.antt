@@ -11,14 +11,14 @@ use Rattle.am_clause.specs.ClauseForm.{cnf}
 use Rattle.am_clause.specs.SortedClause.{is_sorted_clause}
 use Rattle.am_clause.specs.Steps.{clause_at}
 use Rattle.am_diagram.specs.Clauses.{goal, givens}
-use Rattle.am_diagram.specs.Listed.{sorts_in}
+use Rattle.am_diagram.specs.Listed.{entry_sorts}
 use Rattle.am_diagram.specs.Steps.{formulas_of}
 use Rattle.am_check.specs.declared.starts.Origin.{Origin}
 use Rattle.am_calculus.specs.declared.fault.StepFault.{StepFault}
 use Rattle.am_calculus.specs.declared.fault.StepFault.TheVariants as step
 use Rattle.am_theory.specs.declared.theory.Theory.{Theory}
 use Rattle.am_diagram.specs.declared.diagram.Diagram.{Diagram}
-use Rattle.am_fortran.specs.Lines.{lines, groups, first_line}
+use Rattle.am_fortran.specs.Lines.{lines_of, groups, first_line}
 use Rattle.am_fortran.specs.declared.unit.Unit.{Unit as Subroutine}
 use Rattle.am_exec.specs.Terms.{terms}
 use Rattle.am_check.specs.FirstFault.{IsTextOf, IsFaultOf, IsFirstFault}
@@ -44,11 +44,11 @@ pub record IsOrigin (t : Theory) (d : Diagram) (o : Origin) : Type 0 where
   pub axioms : o.axioms ≡ map cnf (formulas_of t)
   pub goal_is : o.goal ≡ goal d
   pub givens_are : o.givens ≡ givens d
-  pub sorts : o.sorts ≡ sorts_in d.inputs
+  pub sorts : o.sorts ≡ entry_sorts d.inputs
 
 -- each row has a well sorted clause
 abbrev pub AreSorted : Theory → Diagram → List Row → Type 0
-AreSorted t d rows = AllByRecursion (λ (r : Row). IsTrue (is_sorted_clause t.sig (sorts_in d.inputs) r.clause)) rows
+AreSorted t d rows = AllByRecursion (λ (r : Row). IsTrue (is_sorted_clause t.sig (entry_sorts d.inputs) r.clause)) rows
 
 -- the same, tested
 abbrev pub are_sorted : Signature → List SortId → List Row → Bool
@@ -70,7 +70,7 @@ ends_bare rows = is_bare_clause (clause_at rows (length rows))
 
 -- the first line of the group at this place
 abbrev pub line_of_group : List ℕ → ℕ → ℕ
-line_of_group unit place = first_line (groups (lines unit)) place
+line_of_group unit place = first_line (groups (lines_of unit)) place
 
 -- the unit part is the text of a unit that leaves these terms in the outputs
 pub record Leaves (t : Theory) (d : Diagram) (unit : List ℕ) (answer : List Term) : Type 0 where

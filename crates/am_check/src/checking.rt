@@ -4,7 +4,7 @@ ghost use Rattle.am_theory.specs.Facts.{WellFormed};
 ghost use Rattle.am_diagram.specs.Facts.{WellFormed as WellDrawn};
 ghost use Rattle.am_log.specs.Text.{byte_limit};
 ghost use Rattle.am_check.specs.Accepted.{Accepted as IsAccepted};
-ghost use Rattle.am_check.specs.FirstFault.{IsFirstFault, IsProofOf, IsTextOf, item_line as line_of_item, end_item as item_of_end};
+ghost use Rattle.am_check.specs.FirstFault.{IsFirstFault, IsProofOf, IsTextOf, item_line as line_of_item, end_item_number as item_of_end};
 ghost use Rattle.am_check.specs.Phases.{Stops, StopsText, IsVerdict, Leaves};
 ghost use Rattle.am_check.specs.declared.reason.Reason.{Reason as IsReason};
 ghost use Rattle.am_check.specs.declared.reason.Verdict.TheVariants.{Accepted, Refused};
@@ -35,7 +35,8 @@ pub fn check(
     // Accepted exactly where the text is.
     ensures accepted { IfOk result (λ verdict. (verdict ≡ Accepted) ↔ IsAccepted theory.now diagram.now text.now) }
     // Refused for the first fault, at its line.
-    ensures refused { IfOk result (λ verdict. (line : ℕ) (reason : IsReason) → (verdict ≡ Refused line reason) ↔ IsFirstFault theory.now diagram.now text.now line reason) }
+    ensures refused { IfOk result (λ verdict. (line : ℕ) (reason : IsReason)
+        → (verdict ≡ Refused line reason) ↔ IsFirstFault theory.now diagram.now text.now line reason) }
 {
     law_of_refusal();
     verdict(alloc, theory, diagram, text)

@@ -4,10 +4,10 @@ ghost use Rattle.am_calculus.specs.Faults.{first_fault};
 ghost use Rattle.am_diagram.specs.declared.diagram.Diagram.{Diagram};
 ghost use Rattle.am_theory.specs.Facts.{WellFormed};
 ghost use Rattle.am_diagram.specs.Facts.{WellFormed as WellDrawn};
-ghost use Rattle.am_diagram.specs.Listed.{sorts_in};
+ghost use Rattle.am_diagram.specs.Listed.{entry_sorts};
 ghost use Rattle.am_diagram.specs.Steps.{IsProof, sources};
 ghost use Rattle.am_log.specs.Text.{byte_limit};
-ghost use Rattle.am_check.specs.Accepted.{closing, final_answer};
+ghost use Rattle.am_check.specs.Accepted.{bare_answer, final_answer};
 ghost use Rattle.am_check.specs.FirstFault.{IsFirstBad, IsLog, IsProofOf};
 ghost use Rattle.am_check.specs.Phases.{of_step, AreSorted, IsOrigin, StopsAlways};
 
@@ -82,7 +82,8 @@ pub fn first_bad(
 ) -> Result<Option<(usize, StepFault)>, NoMemory>
     requires diagram { WellDrawn theory.now diagram.now }
     requires sorted { AreSorted theory.now diagram.now rows.now }
-    ensures { IfOk result (λ bad. MatchOption bad (IsProof theory.now diagram.now rows.now) (λ b. IsFirstBad theory.now diagram.now rows.now b.0 b.1)) }
+    ensures { IfOk result (λ bad. MatchOption bad (IsProof theory.now diagram.now rows.now) (λ b.
+        IsFirstBad theory.now diagram.now rows.now b.0 b.1)) }
 {
     let origin = origin_of(alloc, theory, diagram)?;
     for (place, row) in rows.iter().enumerate() {
@@ -101,7 +102,9 @@ fn row_fault(
     before: &[Row],
     row: &Row,
 ) -> Result<Option<StepFault>, NoMemory>
-    ensures { (d : Diagram) → IsOrigin theory.now d origin.now → IfOk result (λ f. f ≡ first_fault theory.now.sig (sorts_in d.inputs) (sources theory.now d) before.now row.now) }
+    ensures { (d : Diagram) → IsOrigin theory.now d origin.now
+        → IfOk result (λ f. f ≡ first_fault theory.now.sig (entry_sorts d.inputs)
+        (sources theory.now d) before.now row.now) }
 {
     let ctx = Ctx {
         sig: &theory.sig,
@@ -126,7 +129,7 @@ pub fn last_answer(rows: &[Row]) -> Option<&[Term]>
 }
 
 fn closing_answer(clause: &Clause) -> Option<&[Term]>
-    ensures { option_copied result ≡ closing clause.now.literals clause.now.answer }
+    ensures { option_copied result ≡ bare_answer clause.now.literals clause.now.answer }
 {
     if !clause.literals.is_empty() {
         return None;

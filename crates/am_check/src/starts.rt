@@ -2,7 +2,7 @@ ghost use Rattle.std.specs.Prelude.{◌≡◌, IfOk, map};
 ghost use Rattle.am_clause.specs.ClauseForm.{cnf};
 ghost use Rattle.am_check.specs.Phases.{IsOrigin};
 ghost use Rattle.am_diagram.specs.Facts.{WellFormed as WellDrawn};
-ghost use Rattle.am_diagram.specs.Listed.{sorts_in};
+ghost use Rattle.am_diagram.specs.Listed.{entry_sorts};
 ghost use Rattle.am_diagram.specs.Steps.{formulas_of};
 
 use am_clause::{Clause, ClauseFault, clauses_of, formula_variables};
@@ -67,7 +67,7 @@ fn clauses(alloc: Global, formula: &Formula) -> Result<Items<Clause>, NoMemory>
 
 /// The sorts of the inputs, in order.
 pub fn input_sorts(alloc: Global, diagram: &Diagram) -> Result<Items<SortId>, NoMemory>
-    ensures { IfOk result (λ sorts. sorts ≡ sorts_in diagram.now.inputs) }
+    ensures { IfOk result (λ sorts. sorts ≡ entry_sorts diagram.now.inputs) }
 {
     let mut sorts = Items::new(alloc);
     for input in diagram.inputs.as_slice() {

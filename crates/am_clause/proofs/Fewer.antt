@@ -18,7 +18,7 @@ use Rattle.am_clause.specs.Merge.{merged}
 use Rattle.am_clause.specs.Variables.{Variable, same_variable, in_atom, in_literals, in_clause, in_formula, in_formulas, variables, variables_of, in_formula-Atom, in_formula-Not, in_formula-And, in_formula-Or, in_formula-Implies, in_formula-Iff, in_formulas-more}
 use Rattle.am_clause.specs.ClauseForm.{Lists, followed, product, products, unit, pos, neg, merged_clause, pos-Atom, neg-Atom, pos-Not, neg-Not, pos-And, neg-And, pos-Or, neg-Or, pos-Implies, neg-Implies, pos-Iff, neg-Iff}
 use Rattle.am_clause.specs.Bounded.{plain}
-use Rattle.am_clause.specs.Forms.{form}
+use Rattle.am_clause.specs.Forms.{form_of}
 use Rattle.am_clause.proofs.Members.{any-flat, any-distinct, distinct-fewer, all-from, all-at}
 use Rattle.am_clause.proofs.Places.{same_variable-refl, same_variable-sound}
 
@@ -169,8 +169,8 @@ few_merged : (cs : Lists) → AllByRecursion IsFew cs → AllByRecursion IsFewPl
 few_merged [] h = tt
 few_merged (c ∷ cs) h = (h.0, few_merged cs h.1)
 
-pub few-clauses : (f : Formula) → length (variables_of f) < 4000000000 → All IsFewPlain (map merged (form true f))
-unfolding form
+pub few-clauses : (f : Formula) → length (variables_of f) < 4000000000 → All IsFewPlain (map merged (form_of true f))
+unfolding form_of
 few-clauses f few = All-from_recursion IsFewPlain (map merged (pos f)) (few_merged (pos f) (few_all f few (pos f)
     (pos-pass (λ v. among same_variable v (in_formula f)) f
     (all-from same_variable same_variable-sound same_variable-refl (λ v. among same_variable v (in_formula f)) (in_formula f) (λ v m. m)))))

@@ -8,7 +8,7 @@ use Rattle.am_clause.specs.declared.row.Rule.{Rule}
 use Rattle.am_clause.specs.declared.row.Rule.TheVariants.{Axiom, Goal, Given, Factor, Reflex, Resolve, Para, Rewrite, Close}
 use Rattle.am_clause.specs.declared.row.Row.{Row}
 use Rattle.am_clause.specs.Ancestors.{parents_of, count_to, with_parents, renumbered_row, kept_from, AreOrdered, AreAncestors}
-use Rattle.am_clause.specs.Marks.{flag_of, is_marked, counts_to, number_of, number_at, AreMarked}
+use Rattle.am_clause.specs.Marks.{flag_of, is_marked, counts_to, number_or_zero, new_number, AreMarked}
 use Rattle.am_clause.proofs.Marking.{low}
 
 -- ---- counting
@@ -89,9 +89,9 @@ counts-read stays (suc n) j h = by (nat_lt j n) refl (counts-read stays n j)
         let s : j ≡ n = grind (arith, nat_tests) in
         push-last (counts_to stays n) (count_to stays (suc n)) j (s ∙ sym (counts-length stays n)) ∙ ap (λ (m : ℕ). Some (count_to stays (suc m))) (sym s)
 
-number-read : (stays : ℕ → Bool) (n p : ℕ) → 0 < p → p ≤ n → number_at (counts_to stays n) p ≡ count_to stays p
+number-read : (stays : ℕ → Bool) (n p : ℕ) → 0 < p → p ≤ n → new_number (counts_to stays n) p ≡ count_to stays p
 number-read stays n zero h k = absurd (omega arith)
-number-read stays n (suc j) h k = ap number_of (counts-read stays n j (omega arith))
+number-read stays n (suc j) h k = ap number_or_zero (counts-read stays n j (omega arith))
 
 -- ---- the rows that stay
 
@@ -175,13 +175,13 @@ all-mapped P R f (p ∷ ps) h = (f p h.0, all-mapped P R f ps h.1)
 
 pub are-ancestors : (rows : List Row) → AreOrdered rows → (last : ℕ) (flags : List Bool) → AreMarked rows last flags
     → (numbers : List ℕ) → numbers ≡ counts_to (is_marked flags) (length flags)
-    → (made : List Row) → made ≡ kept_from (is_marked flags) (number_at numbers) 1 (take (length flags) rows) → AreAncestors rows last made
+    → (made : List Row) → made ≡ kept_from (is_marked flags) (new_number numbers) 1 (take (length flags) rows) → AreAncestors rows last made
 are-ancestors rows ordered last flags marked numbers e made is = record {
   stays = is_marked flags;
   those = marked.those;
-  is = is ∙ kept-same (is_marked flags) (number_at numbers) (count_to (is_marked flags)) rows 1 (length flags)
-      (λ i r at l. all-mapped (λ p. (0 < p) × (p < suc i)) (λ p. number_at numbers p ≡ count_to (is_marked flags) p)
-      (λ p h. ap (λ (ns : List ℕ). number_at ns p) e ∙ number-read (is_marked flags) (length flags) p h.0 (within p i h.1 l)) (parents_of r.rule) (ordered (suc i) r at))
+  is = is ∙ kept-same (is_marked flags) (new_number numbers) (count_to (is_marked flags)) rows 1 (length flags)
+      (λ i r at l. all-mapped (λ p. (0 < p) × (p < suc i)) (λ p. new_number numbers p ≡ count_to (is_marked flags) p)
+      (λ p h. ap (λ (ns : List ℕ). new_number ns p) e ∙ number-read (is_marked flags) (length flags) p h.0 (within p i h.1 l)) (parents_of r.rule) (ordered (suc i) r at))
       (λ k l. beyond k l);
 }
   where

@@ -16,7 +16,7 @@ use Rattle.am_clause.proofs.Places.{same_variable-refl, same_variable-sound, pla
 use Rattle.am_clause.proofs.Bijections.{read-place, distinct-map, place-map}
 use Rattle.am_clause.proofs.Renames.{moved, Within, within-left, within-right, terms-moved, clause-moved, after, term-twice, clause-twice, itself, clause-itself, term-agrees, clause-agrees}
 use Rattle.am_clause.specs.Numbered.{AreNumbered}
-use Rattle.am_clause.specs.NumberedMade.{numbering, variables_in, renamed_made, numbered_made, AreAlikeMade}
+use Rattle.am_clause.specs.NumberedMade.{numbering, made_occurrences, renamed_made, numbered_made, AreAlikeMade}
 
 abbrev made_of : Clause → List (List Term) → Made
 made_of c with = record { clause = c; with = with }
@@ -111,7 +111,7 @@ module _ (to : Numbers) where
   lists-moved (ts ∷ tss) = ap (λ vs. vs ++ flat_map occurrences_all (map (renamed_all to) tss)) (terms-moved to ts) ∙ (ap (λ vs. map (moved to) (occurrences_all ts) ++ vs) (lists-moved tss)
       ∙ sym (map-append (moved to) (occurrences_all ts) (flat_map occurrences_all tss)))
 
-  pub made-moved : (m : Made) → variables_in (renamed_made to m) ≡ map (moved to) (variables_in m)
+  pub made-moved : (m : Made) → made_occurrences (renamed_made to m) ≡ map (moved to) (made_occurrences m)
   made-moved m = ap (λ vs. vs ++ flat_map occurrences_all (map (renamed_all to) m.with)) (clause-moved to m.clause) ∙ (ap (λ vs. map (moved to) (in_clause m.clause) ++ vs) (lists-moved m.with)
       ∙ sym (map-append (moved to) (in_clause m.clause) (flat_map occurrences_all m.with)))
 
@@ -132,7 +132,7 @@ module _ (to from : Numbers) where
       ap (λ x. x ∷ map (renamed_all to) tss) (terms-agree ts (λ v m. h v (within-left v (occurrences_all ts) (flat_map occurrences_all tss) m)))
       ∙ ap (λ xs. renamed_all from ts ∷ xs) (lists-agree tss (λ v m. h v (within-right v (occurrences_all ts) (flat_map occurrences_all tss) m)))
 
-  made-agrees : (m : Made) → Agree (variables_in m) → renamed_made to m ≡ renamed_made from m
+  made-agrees : (m : Made) → Agree (made_occurrences m) → renamed_made to m ≡ renamed_made from m
   made-agrees m h =
       ap (λ c. made_of c (map (renamed_all to) m.with)) (clause-agrees to from m.clause (λ v n. h v (within-left v (in_clause m.clause) (flat_map occurrences_all m.with) n)))
       ∙ ap (made_of (renamed_clause from m.clause)) (lists-agree m.with (λ v n. h v (within-right v (in_clause m.clause) (flat_map occurrences_all m.with) n)))
@@ -170,25 +170,25 @@ made-itself m = ap (λ c. made_of c (map (renamed_all itself) m.with)) (clause-i
 
 -- ---- the laws
 
-pub made-numbered : (m : Made) → AreNumbered (variables_in (numbered_made m))
+pub made-numbered : (m : Made) → AreNumbered (made_occurrences (numbered_made m))
 unfolding numbered_made
-made-numbered m = subst AreNumbered (sym (made-moved (numbering (variables_in m)) m)) (numbering-numbered (variables_in m))
+made-numbered m = subst AreNumbered (sym (made-moved (numbering (made_occurrences m)) m)) (numbering-numbered (made_occurrences m))
 
-pub made-fixed : (m : Made) → AreNumbered (variables_in m) → numbered_made m ≡ m
+pub made-fixed : (m : Made) → AreNumbered (made_occurrences m) → numbered_made m ≡ m
 unfolding numbered_made
-made-fixed m h = made-agrees (numbering (variables_in m)) itself m (λ v n. sym (h (numbering (variables_in m) v.0 v.1) v (read-place (distinct same_variable (variables_in m)) v (within-distinct v (variables_in m) n)))) ∙ made-itself m
+made-fixed m h = made-agrees (numbering (made_occurrences m)) itself m (λ v n. sym (h (numbering (made_occurrences m) v.0 v.1) v (read-place (distinct same_variable (made_occurrences m)) v (within-distinct v (made_occurrences m) n)))) ∙ made-itself m
 
 pub made-alike : (m n : Made) → AreAlikeMade m n → numbered_made n ≡ numbered_made m
 unfolding numbered_made
-made-alike m n h = ap (λ (x : Made). renamed_made (numbering (variables_in x)) x) h.is
-    ∙ (made-twice (numbering (variables_in (renamed_made h.to m))) h.to m
-    ∙ made-agrees (after (numbering (variables_in (renamed_made h.to m))) h.to) (numbering (variables_in m)) m agree)
+made-alike m n h = ap (λ (x : Made). renamed_made (numbering (made_occurrences x)) x) h.is
+    ∙ (made-twice (numbering (made_occurrences (renamed_made h.to m))) h.to m
+    ∙ made-agrees (after (numbering (made_occurrences (renamed_made h.to m))) h.to) (numbering (made_occurrences m)) m agree)
   where
     f : Variable → Variable
     f = moved h.to
 
     vs : List Variable
-    vs = variables_in m
+    vs = made_occurrences m
 
     keeps : (v w : Variable) → Within v vs → Within w vs → f v ≡ f w → v ≡ w
     keeps v w a b e = h.apart v w a b (ap (λ (x : Variable). x.0) e) (ap (λ (x : Variable). x.1) e)
@@ -198,7 +198,7 @@ made-alike m n h = ap (λ (x : Made). renamed_made (numbering (variables_in x)) 
         (λ e. subst (λ (x : Variable). same_variable v x ≡ true) (keeps v w a b (same_variable-sound (f v) (f w) e)) (same_variable-refl v))
         (λ e. subst (λ (x : Variable). same_variable (f v) (f x) ≡ true) (same_variable-sound v w e) (same_variable-refl (f v)))
 
-    agree : (v : Variable) → Within v vs → after (numbering (variables_in (renamed_made h.to m))) h.to v.0 v.1 ≡ numbering vs v.0 v.1
+    agree : (v : Variable) → Within v vs → after (numbering (made_occurrences (renamed_made h.to m))) h.to v.0 v.1 ≡ numbering vs v.0 v.1
     agree v a = ap (λ (ws : List Variable). places_in (distinct same_variable ws) (h.to v.0 v.1) v.1) (made-moved h.to m)
         ∙ (ap (λ (ws : List Variable). places_in ws (h.to v.0 v.1) v.1) (distinct-map f vs keeps)
         ∙ place-map f v (distinct same_variable vs) (λ w b. kept v w a (distinct-within w vs b)))

@@ -18,7 +18,7 @@ use Rattle.am_term.proofs.Tests.{or_cases, never_both}
 use Rattle.am_clause.specs.Distinct.{with_new}
 use Rattle.am_clause.specs.ClauseForm.{Lists, followed, product, products, unit, pos, neg}
 use Rattle.am_clause.specs.Count.{count, count_negated}
-use Rattle.am_clause.specs.Forms.{form, forms, forms_product, capped, form_laws}
+use Rattle.am_clause.specs.Forms.{form_of, forms, forms_product, capped, form_laws}
 use Rattle.am_clause.specs.Bounded.{widened_by, widened, is_long, fitted, bounded, both, fitted_product, are_none, none_among}
 use Rattle.am_clause.proofs.Bounds.{bounded-append, bounded-product}
 use Rattle.am_clause.proofs.Lengths.{all_counted}
@@ -30,24 +30,24 @@ unfolding are_none capped
 counted_none [] n e = grind (arith, nat_tests)
 counted_none (c ∷ cs) n e = grind (arith, nat_tests)
 
-pub none-pos : (f : Formula) → are_none (form true f) ≡ (capped (count f) == 0)
-unfolding form
+pub none-pos : (f : Formula) → are_none (form_of true f) ≡ (capped (count f) == 0)
+unfolding form_of
 none-pos f = counted_none (pos f) (count f) (all_counted f).pos
 
-pub none-neg : (f : Formula) → are_none (form false f) ≡ (capped (count_negated f) == 0)
-unfolding form
+pub none-neg : (f : Formula) → are_none (form_of false f) ≡ (capped (count_negated f) == 0)
+unfolding form_of
 none-neg f = counted_none (neg f) (count_negated f) (all_counted f).neg
 
 flat-more : {X Y : Type 0} (f : X → List Y) (xs : List X) (i : ℕ) (d : X) → i < length xs → flat_map f (take (i + 1) xs) ≡ flat_map f (take i xs) ++ f (get_or xs i d)
 flat-more f xs i d h = ap (flat_map f) (take_more xs i d h) ∙ flat_map-append f (take i xs) (get_or xs i d ∷ []) ∙ ap (λ ys. flat_map f (take i xs) ++ ys) (append-nil (f (get_or xs i d)))
 
-forms-more : (sign : Bool) (fs : List Formula) (i : ℕ) (d : Formula) → i < length fs → forms sign (take (i + 1) fs) ≡ forms sign (take i fs) ++ form sign (get_or fs i d)
+forms-more : (sign : Bool) (fs : List Formula) (i : ℕ) (d : Formula) → i < length fs → forms sign (take (i + 1) fs) ≡ forms sign (take i fs) ++ form_of sign (get_or fs i d)
 unfolding forms
-forms-more sign fs i d h = flat-more (form sign) fs i d h
+forms-more sign fs i d h = flat-more (form_of sign) fs i d h
 
-forms_product-more : (sign : Bool) (fs : List Formula) (i : ℕ) (d : Formula) → i < length fs → forms_product sign (take (i + 1) fs) ≡ product (forms_product sign (take i fs)) (form sign (get_or fs i d))
+forms_product-more : (sign : Bool) (fs : List Formula) (i : ℕ) (d : Formula) → i < length fs → forms_product sign (take (i + 1) fs) ≡ product (forms_product sign (take i fs)) (form_of sign (get_or fs i d))
 unfolding forms_product products
-forms_product-more sign fs i d h = ap (fold product ([] ∷ [])) (map_more (form sign) fs i d h) ∙ fold_push product ([] ∷ []) (map (form sign) (take i fs)) (form sign (get_or fs i d))
+forms_product-more sign fs i d h = ap (fold product ([] ∷ [])) (map_more (form_of sign) fs i d h) ∙ fold_push product ([] ∷ []) (map (form_of sign) (take i fs)) (form_of sign (get_or fs i d))
 
 -- the clauses of parts, one after another
 pub joined-none : (most : ℕ) (sign : Bool) → bounded most (forms sign []) ≡ Some []
@@ -55,8 +55,8 @@ unfolding bounded fitted forms
 joined-none most sign = refl
 
 pub joined-more : (most : ℕ) (sign : Bool) (fs : List Formula) (i : ℕ) (d : Formula) → i < length fs
-    → bounded most (forms sign (take (i + 1) fs)) ≡ both (bounded most (forms sign (take i fs))) (bounded most (form sign (get_or fs i d)))
-joined-more most sign fs i d h = ap (bounded most) (forms-more sign fs i d h) ∙ bounded-append most (forms sign (take i fs)) (form sign (get_or fs i d))
+    → bounded most (forms sign (take (i + 1) fs)) ≡ both (bounded most (forms sign (take i fs))) (bounded most (form_of sign (get_or fs i d)))
+joined-more most sign fs i d h = ap (bounded most) (forms-more sign fs i d h) ∙ bounded-append most (forms sign (take i fs)) (form_of sign (get_or fs i d))
 
 -- no clauses of a part, or some of each
 nothing_times : (as_ : Lists) → product as_ [] ≡ []
@@ -92,31 +92,31 @@ stays_nothing [] = refl
 stays_nothing (l ∷ ls) = stays_nothing ls
 
 -- the product from a first factor on
-nothing_from : (sign : Bool) (made : Lists) (fs : List Formula) → none_among sign fs ≡ true → fold product made (map (form sign) fs) ≡ []
+nothing_from : (sign : Bool) (made : Lists) (fs : List Formula) → none_among sign fs ≡ true → fold product made (map (form_of sign) fs) ≡ []
 unfolding none_among
 nothing_from sign made [] e = absurd cc
-nothing_from sign made (f ∷ fs) e = by (or_cases (are_none (form sign f)) (none_among sign fs) e) (nothing_from sign (product made (form sign f)) fs)
+nothing_from sign made (f ∷ fs) e = by (or_cases (are_none (form_of sign f)) (none_among sign fs) e) (nothing_from sign (product made (form_of sign f)) fs)
   where
-    by : (are_none (form sign f) ≡ true) ⊎ (none_among sign fs ≡ true) → (none_among sign fs ≡ true → fold product (product made (form sign f)) (map (form sign) fs) ≡ [])
-        → fold product (product made (form sign f)) (map (form sign) fs) ≡ []
-    by (inl p) h = ap (λ cs. fold product (product made cs) (map (form sign) fs)) (none_is (form sign f) p) ∙ (ap (λ cs. fold product cs (map (form sign) fs)) (nothing_times made) ∙ stays_nothing (map (form sign) fs))
+    by : (are_none (form_of sign f) ≡ true) ⊎ (none_among sign fs ≡ true) → (none_among sign fs ≡ true → fold product (product made (form_of sign f)) (map (form_of sign) fs) ≡ [])
+        → fold product (product made (form_of sign f)) (map (form_of sign) fs) ≡ []
+    by (inl p) h = ap (λ cs. fold product (product made cs) (map (form_of sign) fs)) (none_is (form_of sign f) p) ∙ (ap (λ cs. fold product cs (map (form_of sign) fs)) (nothing_times made) ∙ stays_nothing (map (form_of sign) fs))
     by (inr p) h = h p
 
-some_from : (sign : Bool) (made : Lists) (fs : List Formula) (i : ℕ) → are_none made ≡ false → none_among sign fs ≡ false → are_none (fold product made (map (form sign) (take i fs))) ≡ false
+some_from : (sign : Bool) (made : Lists) (fs : List Formula) (i : ℕ) → are_none made ≡ false → none_among sign fs ≡ false → are_none (fold product made (map (form_of sign) (take i fs))) ≡ false
 unfolding none_among
 some_from sign made [] zero h e = h
 some_from sign made [] (suc i) h e = h
 some_from sign made (f ∷ fs) zero h e = h
 some_from sign made (f ∷ fs) (suc i) h e =
-    let k : (are_none (form sign f) ≡ false) × (none_among sign fs ≡ false) = or_parts (are_none (form sign f)) (none_among sign fs) e in
-    some_from sign (product made (form sign f)) fs i (some_times made (form sign f) h k.0) k.1
+    let k : (are_none (form_of sign f) ≡ false) × (none_among sign fs ≡ false) = or_parts (are_none (form_of sign f)) (none_among sign fs) e in
+    some_from sign (product made (form_of sign f)) fs i (some_times made (form_of sign f) h k.0) k.1
 
-some_at : (sign : Bool) (fs : List Formula) (i : ℕ) (d : Formula) → i < length fs → none_among sign fs ≡ false → are_none (form sign (get_or fs i d)) ≡ false
+some_at : (sign : Bool) (fs : List Formula) (i : ℕ) (d : Formula) → i < length fs → none_among sign fs ≡ false → are_none (form_of sign (get_or fs i d)) ≡ false
 unfolding none_among
-some_at sign fs i d h e = by (are_none (form sign (get_or fs i d))) refl
+some_at sign fs i d h e = by (are_none (form_of sign (get_or fs i d))) refl
   where
-    by : (b : Bool) → are_none (form sign (get_or fs i d)) ≡ b → are_none (form sign (get_or fs i d)) ≡ false
-    by true f = never_both (list_any (λ f. are_none (form sign f)) fs) (list_any_at (λ f. are_none (form sign f)) fs i d h f) e
+    by : (b : Bool) → are_none (form_of sign (get_or fs i d)) ≡ b → are_none (form_of sign (get_or fs i d)) ≡ false
+    by true f = never_both (list_any (λ f. are_none (form_of sign f)) fs) (list_any_at (λ f. are_none (form_of sign f)) fs i d h f) e
     by false f = f
 
 -- the product of the clauses of parts
@@ -129,10 +129,10 @@ unfolding bounded fitted forms_product products
 multiplied-start most sign = let e : nat_lt most 0 ≡ false = grind (arith, nat_tests) in rw e refl
 
 pub multiplied-more : (most : ℕ) (sign : Bool) (fs : List Formula) (i : ℕ) (d : Formula) → i < length fs → none_among sign fs ≡ false
-    → bounded most (forms_product sign (take (i + 1) fs)) ≡ fitted_product most (bounded most (forms_product sign (take i fs))) (bounded most (form sign (get_or fs i d)))
+    → bounded most (forms_product sign (take (i + 1) fs)) ≡ fitted_product most (bounded most (forms_product sign (take i fs))) (bounded most (form_of sign (get_or fs i d)))
 unfolding forms_product products are_none
 multiplied-more most sign fs i d h e = ap (bounded most) (forms_product-more sign fs i d h)
-    ∙ bounded-product most (forms_product sign (take i fs)) (form sign (get_or fs i d)) (some_from sign ([] ∷ []) fs i refl e) (some_at sign fs i d h e)
+    ∙ bounded-product most (forms_product sign (take i fs)) (form_of sign (get_or fs i d)) (some_from sign ([] ∷ []) fs i refl e) (some_at sign fs i d h e)
 
 -- one literal
 pub bounded-unit : (most : ℕ) (sign : Bool) (a : Atom) → 0 < most → bounded most (unit sign a) ≡ Some (unit sign a)

@@ -8,7 +8,7 @@ use Rattle.am_clause.specs.declared.clause.Clause.{Clause}
 use Rattle.am_clause.specs.Distinct.{with_new}
 use Rattle.am_clause.specs.Merge.{merged}
 use Rattle.am_clause.specs.ClauseForm.{Lists}
-use Rattle.am_clause.specs.Forms.{form}
+use Rattle.am_clause.specs.Forms.{form_of}
 
 -- a followed by what is new there of each of the others
 unfoldable pub widened_by : List Literal → Lists → Lists
@@ -53,4 +53,4 @@ are_none (c ∷ cs) = false
 
 -- one of the formulas has no clauses, or its negation has none
 unfoldable pub none_among : Bool → List Formula → Bool
-none_among sign fs = list_any (λ f. are_none (form sign f)) fs
+none_among sign fs = list_any (λ f. are_none (form_of sign f)) fs

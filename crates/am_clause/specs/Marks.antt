@@ -43,10 +43,10 @@ abbrev pub counts_to : (ℕ → Bool) → ℕ → List ℕ
 counts_to stays zero = []
 counts_to stays (suc n) = counts_to stays n ++ count_to stays (suc n) ∷ []
 
-abbrev pub number_of : Option ℕ → ℕ
-number_of None = 0
-number_of (Some n) = n
+abbrev pub number_or_zero : Option ℕ → ℕ
+number_or_zero None = 0
+number_or_zero (Some n) = n
 
 -- the number listed for a row, by its old number from 1
-abbrev pub number_at : List ℕ → ℕ → ℕ
-number_at numbers p = number_of (member numbers p)
+abbrev pub new_number : List ℕ → ℕ → ℕ
+new_number numbers p = number_or_zero (member numbers p)

@@ -27,13 +27,13 @@ Variable = ℕ × SortId
 unfoldable pub same_variable : Variable → Variable → Bool
 same_variable v w = v.0 == w.0 && v.1.0 == w.1.0
 
-abbrev pub joined : List (List Variable) → List Variable
-joined = flat_map (λ vs. vs)
+abbrev pub joined_variables : List (List Variable) → List Variable
+joined_variables = flat_map (λ vs. vs)
 
 abbrev pub occurrences_step : Term-F (List Variable) → List Variable
 occurrences_step (Term-F.Var n s) = (n, s) ∷ []
 occurrences_step (Term-F.In k) = []
-occurrences_step (Term-F.App f parts) = joined parts
+occurrences_step (Term-F.App f parts) = joined_variables parts
 
 -- the variables of a term in the order of their occurrences, each as often as it occurs
 unfoldable pub occurrences : Term → List Variable
@@ -60,8 +60,8 @@ in_clause c = in_literals c.literals ++ in_answer c.answer
 abbrev pub in_formula_step : Formula-F (List Variable) → List Variable
 in_formula_step (Formula-F.Atom a) = in_atom a
 in_formula_step (Formula-F.Not vs) = vs
-in_formula_step (Formula-F.And parts) = joined parts
-in_formula_step (Formula-F.Or parts) = joined parts
+in_formula_step (Formula-F.And parts) = joined_variables parts
+in_formula_step (Formula-F.Or parts) = joined_variables parts
 in_formula_step (Formula-F.Implies vs ws) = vs ++ ws
 in_formula_step (Formula-F.Iff vs ws) = vs ++ ws
 
@@ -80,7 +80,7 @@ unfoldable pub variables_of : Formula → List Variable
 variables_of f = distinct same_variable (in_formula f)
 
 -- joining what was made of each member
-pub parts_joined : {X : Type 0} (f : X → List Variable) (xs : List X) → joined (map f xs) ≡ flat_map f xs
+pub parts_joined : {X : Type 0} (f : X → List Variable) (xs : List X) → joined_variables (map f xs) ≡ flat_map f xs
 parts_joined f [] = refl
 parts_joined f (x ∷ xs) = ap (λ vs. f x ++ vs) (parts_joined f xs)
 

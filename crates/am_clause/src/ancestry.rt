@@ -1,7 +1,7 @@
 ghost use Rattle.std.specs.Prelude.{◌≡◌, ◌++◌, ◌-◌, ◌∷◌, ◌<◌, ◌≤◌, ◌^◌, [], true, IfOk, length, slice_get, take};
 ghost use Rattle.am_term.specs.Place.{with_member};
 ghost use Rattle.am_clause.specs.Ancestors.{parents_of, with_parents, renumbered_row, kept_from, AreOrdered, AreAncestors};
-ghost use Rattle.am_clause.specs.Marks.{flag_of, is_marked, falses, marked_by, stepped, counts_to, number_at as number_in, AreMarked};
+ghost use Rattle.am_clause.specs.Marks.{flag_of, is_marked, falses, marked_by, stepped, counts_to, new_number as number_in, AreMarked};
 
 use crate::copying::{copy_clause, copy_lists};
 use crate::row::{Log, Row, Rule};
@@ -136,7 +136,8 @@ fn kept(
     numbers: &[u32],
 ) -> Result<Items<Row>, NoMemory>
     requires { length flags.now ≤ length rows.now }
-    ensures { IfOk result (λ made. made ≡ kept_from (is_marked flags.now) (number_in numbers.now) 1 (take (length flags.now) rows.now)) }
+    ensures { IfOk result (λ made. made ≡ kept_from (is_marked flags.now) (number_in numbers.now) 1
+        (take (length flags.now) rows.now)) }
 {
     let mut made = Items::new(alloc);
     for i in 0..flags.len() {

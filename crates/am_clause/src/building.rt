@@ -1,7 +1,7 @@
 ghost use Rattle.std.specs.Prelude.{◌≡◌, ◌++◌, ◌∷◌, [], map, IfOk, OnOk};
 ghost use Rattle.std.specs.List.{list_any};
 ghost use Rattle.am_clause.specs.ClauseForm.{product, unit};
-ghost use Rattle.am_clause.specs.Forms.{form, forms, forms_product};
+ghost use Rattle.am_clause.specs.Forms.{form_of, forms, forms_product};
 ghost use Rattle.am_clause.specs.Bounded.{are_none, both, bounded, fitted, fitted_product, is_long, none_among, widened, widened_by};
 
 use crate::counting::count_clauses;
@@ -23,7 +23,7 @@ pub fn build(
     positive: bool,
     most: usize,
 ) -> Result<Option<Lists>, NoMemory>
-    ensures { IfOk result (λ cs. cs ≡ bounded most (form positive formula.now)) }
+    ensures { IfOk result (λ cs. cs ≡ bounded most (form_of positive formula.now)) }
 {
     match formula {
         Formula::Atom(atom) => one(alloc, positive, atom, most),
@@ -73,7 +73,7 @@ fn pair(
     second: bool,
     most: usize,
 ) -> Result<Option<Lists>, NoMemory>
-    ensures { IfOk result (λ cs. cs ≡ bounded most (product (form first left.now) (form second right.now))) }
+    ensures { IfOk result (λ cs. cs ≡ bounded most (product (form_of first left.now) (form_of second right.now))) }
 {
     if has_none(left, first) {
         return Ok(Some(Items::new(alloc)));
@@ -126,7 +126,7 @@ fn multiply_all(
 // Whether the formula, or its negation, has no clauses.
 #[tactic(auto, using(crate::proofs::Parts::guarding))]
 fn has_none(formula: &Formula, positive: bool) -> bool
-    ensures { result ≡ are_none (form positive formula.now) }
+    ensures { result ≡ are_none (form_of positive formula.now) }
 {
     let count = count_clauses(formula);
     if positive {

@@ -9,7 +9,7 @@ ghost use Rattle.am_term.specs.Span.{span};
 ghost use Rattle.am_clause.specs.declared.row.Made.{Made};
 ghost use Rattle.am_clause.specs.declared.row.Row.{Row};
 ghost use Rattle.am_clause.specs.Distinct.{among, distinct};
-ghost use Rattle.am_clause.specs.NumberedMade.{variables_in, numbered_made, without_lists, AreAlikeMade};
+ghost use Rattle.am_clause.specs.NumberedMade.{made_occurrences, numbered_made, without_lists, AreAlikeMade};
 ghost use Rattle.am_clause.specs.Variables.{Variable, same_variable, occurrences, in_clause, variables};
 ghost use Rattle.am_clause.specs.Walks.{walk};
 ghost use Rattle.am_clause.specs.Renaming.{places_in, renamed_clause, renumbered};
@@ -38,8 +38,8 @@ pub fn law_of_count()
 /// it is; and those that are alike but for a bijection of variables that keeps sorts are numbered alike.
 /// Without lists it is the numbering of the clause.
 pub fn law_of_made()
-    ensures numbered { (m : Made) → AreNumbered (variables_in (numbered_made m)) }
-    ensures fixed { (m : Made) → AreNumbered (variables_in m) → numbered_made m ≡ m }
+    ensures numbered { (m : Made) → AreNumbered (made_occurrences (numbered_made m)) }
+    ensures fixed { (m : Made) → AreNumbered (made_occurrences m) → numbered_made m ≡ m }
     ensures alike { (m n : Made) → AreAlikeMade m n → numbered_made n ≡ numbered_made m }
     ensures clause { (c : Clause) → numbered_made (without_lists c) ≡ without_lists (renumbered c) }
 {}
@@ -52,11 +52,15 @@ pub fn law_of_rows()
 /// Variables are numbered by first occurrence exactly where the walk over them ends, and then it tells
 /// the sorts of the different ones in order.
 pub fn law_of_walks()
-    ensures told { (vs : List Variable) (ss : List SortId) → walk [] vs ≡ Some ss → AreNumbered vs × (ss ≡ map (λ (v : Variable). v.1) (distinct same_variable vs)) }
-    ensures ends { (vs : List Variable) → AreNumbered vs → walk [] vs ≡ Some (map (λ (v : Variable). v.1) (distinct same_variable vs)) }
+    ensures told { (vs : List Variable) (ss : List SortId) → walk [] vs ≡ Some ss → AreNumbered vs
+        × (ss ≡ map (λ (v : Variable). v.1) (distinct same_variable vs)) }
+    ensures ends { (vs : List Variable) → AreNumbered vs
+        → walk [] vs ≡ Some (map (λ (v : Variable). v.1) (distinct same_variable vs)) }
 {}
 
 /// Where a clause is numbered, a list with a term for each of its variables covers each of its terms.
 pub fn law_of_covers()
-    ensures { (c : Clause) → IsNumbered c → (t : Term) → ((v : Variable) → IsTrue (among same_variable v (occurrences t)) → IsTrue (among same_variable v (in_clause c))) → span t ≤ length (variables c) }
+    ensures { (c : Clause) → IsNumbered c → (t : Term)
+        → ((v : Variable) → IsTrue (among same_variable v (occurrences t))
+        → IsTrue (among same_variable v (in_clause c))) → span t ≤ length (variables c) }
 {}

@@ -3,12 +3,12 @@ use Rattle.std.specs.Prelude.{◌+◌, ◌++◌, ◌/◌, ◌%◌, ℕ, zero, su
 use Rattle.std.specs.Fmt.{decimal}
 
 -- the digit of a number at a power of ten
-abbrev pub digit : ℕ → ℕ → ℕ
-digit n power = 48 + n / power % 10
+abbrev pub digit_at : ℕ → ℕ → ℕ
+digit_at n power = 48 + n / power % 10
 
 -- the last five digits of a number, with zeros in front where it has fewer
 abbrev pub five_digits : ℕ → List ℕ
-five_digits n = digit n 10000 ∷ digit n 1000 ∷ digit n 100 ∷ digit n 10 ∷ digit n 1 ∷ []
+five_digits n = digit_at n 10000 ∷ digit_at n 1000 ∷ digit_at n 100 ∷ digit_at n 10 ∷ digit_at n 1 ∷ []
 
 -- `(routine Cnnnnn (q) (ci q))`: nnnnn is i in five digits
 unfoldable pub routine_line : ℕ → List ℕ
@@ -23,19 +23,19 @@ unfoldable pub later_value : ℕ → List ℕ
 later_value j = codes "(c" ++ decimal (j + 1) ++ codes " (a" ++ decimal j ++ codes " x))"
 
 -- what ai of x equals: `(c1 x)` for the first, and the above for a later one, with j one less than i; there is no a0
-abbrev pub value_of : ℕ → List ℕ
-value_of zero = []
-value_of (suc zero) = codes "(c1 x)"
-value_of (suc (suc j)) = later_value (suc j)
+abbrev pub chain_value : ℕ → List ℕ
+chain_value zero = []
+chain_value (suc zero) = codes "(c1 x)"
+chain_value (suc (suc j)) = later_value (suc j)
 
 -- `(axiom (all ((x q)) (= (ai x) VALUE)))`
 unfoldable pub axiom_line : ℕ → List ℕ
-axiom_line i = codes "(axiom (all ((x q)) (= (a" ++ decimal i ++ codes " x) " ++ value_of i ++ codes ")))" ++ 10 ∷ []
+axiom_line i = codes "(axiom (all ((x q)) (= (a" ++ decimal i ++ codes " x) " ++ chain_value i ++ codes ")))" ++ 10 ∷ []
 
 -- the lines of the numbers from 1 to k, in order
-abbrev pub lines : (ℕ → List ℕ) → ℕ → List ℕ
-lines line zero = []
-lines line (suc k) = lines line k ++ line (suc k)
+abbrev pub lines_to : (ℕ → List ℕ) → ℕ → List ℕ
+lines_to line zero = []
+lines_to line (suc k) = lines_to line k ++ line (suc k)
 
 -- `(theory 1)` and `(sort q double)`
 abbrev pub head_lines : List ℕ
@@ -43,7 +43,7 @@ head_lines = codes "(theory 1)" ++ 10 ∷ codes "(sort q double)" ++ 10 ∷ []
 
 -- the theory of the demonstration of size k: the head, then the routines, the functions and the axioms from 1 to k
 unfoldable pub theory_text : ℕ → List ℕ
-theory_text k = head_lines ++ lines routine_line k ++ lines function_line k ++ lines axiom_line k
+theory_text k = head_lines ++ lines_to routine_line k ++ lines_to function_line k ++ lines_to axiom_line k
 
 -- the lines `(diagram DEMO)`, `(input X q)` and `(output Y q)`
 abbrev pub places_lines : List ℕ

@@ -1,5 +1,5 @@
 ghost use Rattle.std.specs.Prelude.{◌≡◌, ◌++◌, IfOk, OnOk};
-ghost use Rattle.am_demo.specs.Files.{theory_text, diagram_text, found_text, summary_text, lines, routine_line as line_of_routine, function_line as line_of_function, axiom_line as line_of_axiom};
+ghost use Rattle.am_demo.specs.Files.{theory_text, diagram_text, found_text, summary_text, lines_to, routine_line as line_of_routine, function_line as line_of_function, axiom_line as line_of_axiom};
 
 use crate::lines::{axiom_line, function_line, push_number, routine_line};
 use am_term::NoMemory;
@@ -58,7 +58,7 @@ fn found(alloc: Global, k: u32, inferences: usize, calls: usize) -> Result<Vec<u
 }
 
 fn push_routines(alloc: Global, text: &mut Vec<u8>, k: u32) -> Result<(), NoMemory>
-    ensures { OnOk result (text.new.items ≡ text.old.items ++ lines line_of_routine k) }
+    ensures { OnOk result (text.new.items ≡ text.old.items ++ lines_to line_of_routine k) }
 {
     for i in 0..k {
         let line = routine_line(alloc, i + 1)?;
@@ -68,7 +68,7 @@ fn push_routines(alloc: Global, text: &mut Vec<u8>, k: u32) -> Result<(), NoMemo
 }
 
 fn push_functions(alloc: Global, text: &mut Vec<u8>, k: u32) -> Result<(), NoMemory>
-    ensures { OnOk result (text.new.items ≡ text.old.items ++ lines line_of_function k) }
+    ensures { OnOk result (text.new.items ≡ text.old.items ++ lines_to line_of_function k) }
 {
     for i in 0..k {
         let line = function_line(alloc, i + 1)?;
@@ -78,7 +78,7 @@ fn push_functions(alloc: Global, text: &mut Vec<u8>, k: u32) -> Result<(), NoMem
 }
 
 fn push_axioms(alloc: Global, text: &mut Vec<u8>, k: u32) -> Result<(), NoMemory>
-    ensures { OnOk result (text.new.items ≡ text.old.items ++ lines line_of_axiom k) }
+    ensures { OnOk result (text.new.items ≡ text.old.items ++ lines_to line_of_axiom k) }
 {
     for i in 0..k {
         let line = axiom_line(alloc, i + 1)?;

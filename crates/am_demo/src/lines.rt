@@ -1,6 +1,6 @@
 ghost use Rattle.std.specs.Prelude.{◌≡◌, ◌++◌, ◌+◌, ◌^◌, ◌≤◌, ◌<◌, IfOk, OnOk};
 ghost use Rattle.std.specs.Fmt.{decimal};
-ghost use Rattle.am_demo.specs.Files.{digit as digit_of, five_digits, later_value, value_of, routine_line as line_of_routine, function_line as line_of_function, axiom_line as line_of_axiom};
+ghost use Rattle.am_demo.specs.Files.{digit_at as digit_of, five_digits, later_value, chain_value, routine_line as line_of_routine, function_line as line_of_function, axiom_line as line_of_axiom};
 
 use am_term::NoMemory;
 use std::alloc::Global;
@@ -45,7 +45,7 @@ pub fn axiom_line(alloc: Global, i: u32) -> Result<Vec<u8>, NoMemory>
 // What the function of a number equals.
 fn push_value(alloc: Global, line: &mut Vec<u8>, i: u32) -> Result<(), NoMemory>
     requires { 1 ≤ i }
-    ensures { OnOk result (line.new.items ≡ line.old.items ++ value_of i) }
+    ensures { OnOk result (line.new.items ≡ line.old.items ++ chain_value i) }
 {
     if i == 1 {
         line.extend_from_slice(b"(c1 x)")?;

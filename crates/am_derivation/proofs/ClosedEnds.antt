@@ -18,7 +18,7 @@ use Rattle.am_clause.specs.Variables.{occurrences-none, occurrences-more}
 use Rattle.am_clause.proofs.Places.{same_variable-refl}
 use Rattle.am_clause.proofs.Renames.{Within}
 use Rattle.am_rules.specs.Closing.{closing_term, IsClosing, AnswersClosing}
-use Rattle.am_rules.specs.Conclusions.{closed}
+use Rattle.am_rules.specs.Conclusions.{closed_off}
 use Rattle.am_rules.specs.Parts.{answer_under}
 use Rattle.am_rules.proofs.Closings.{chosen-fits}
 use Rattle.am_rules.proofs.Concluded.{closed-answers}
@@ -73,7 +73,7 @@ answer-there xs None e = e
 answer-there xs (Some ts) e = refl
 
 pub close-ends : (sig : Signature) (ins : List SortId) (p : Clause) → IsProper sig ins p → (m : Made)
-    → closed sig ins p ≡ Some m → HasEnd m.clause true
+    → closed_off sig ins p ≡ Some m → HasEnd m.clause true
 close-ends sig ins p h m e =
     let c : IsClosing sig ins p m = subst (AnswersClosing sig ins p) e (closed-answers sig ins p h.numbered) in
     let xs : List Term = c.first in

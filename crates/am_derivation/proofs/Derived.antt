@@ -5,10 +5,10 @@ use Rattle.am_term.specs.declared.id.SortId.{SortId}
 use Rattle.am_term.specs.declared.signature.Signature.{Signature}
 use Rattle.am_clause.specs.declared.row.Row.{Row}
 use Rattle.am_clause.specs.Steps.{Sources, IsStep, AreSteps}
-use Rattle.am_diagram.specs.Listed.{sorts_in}
+use Rattle.am_diagram.specs.Listed.{entry_sorts}
 use Rattle.am_diagram.specs.Steps.{sources}
 use Rattle.am_search.specs.Plain.{History, Start, Then, Choose, Infer, rows}
-use Rattle.am_search.specs.Replay.{Logged, IsStep as IsAnswered}
+use Rattle.am_search.specs.Replay.{Logged, IsReplayed as IsAnswered}
 use Rattle.am_search.specs.Starting.{starting_rows, theory_rows}
 use Rattle.am_search.proofs.Replayed.{steps_law}
 use Rattle.am_derivation.specs.Laws.{HistoriesAreProofs}
@@ -43,6 +43,6 @@ module _ (sig : Signature) (ins : List SortId) (from : Sources) where
 
 pub histories-proofs : HistoriesAreProofs
 histories-proofs t d wt wd weight h f =
-    logged-steps t.sig (sorts_in d.inputs) (sources t d) (starting_rows t d) h (starting-proof t d wt wd)
-    (steps_law t.sig (sorts_in d.inputs) weight (length (theory_rows t)) (length (starting_rows t d))
+    logged-steps t.sig (entry_sorts d.inputs) (sources t d) (starting_rows t d) h (starting-proof t d wt wd)
+    (steps_law t.sig (entry_sorts d.inputs) weight (length (theory_rows t)) (length (starting_rows t d))
     (starting_rows t d) h f)

@@ -14,7 +14,7 @@ use Rattle.am_clause.specs.declared.row.Side.{Side}
 use Rattle.am_clause.specs.Rules.{OneParent, TwoParents, factor, reflex, close, resolve, para, rewrite}
 use Rattle.am_clause.specs.Steps.{Sources, FromOne, FromTwo, IsStep, AreSteps}
 use Rattle.am_clause.proofs.NumberedRows.{numbered-clause}
-use Rattle.am_rules.specs.Conclusions.{factored, resolved, paramodulated, reflexed, rewritten, closed}
+use Rattle.am_rules.specs.Conclusions.{factored, resolved, paramodulated, reflexed, rewritten, closed_off}
 use Rattle.am_rules.specs.Inference.{row_of, IsStepOfOne, IsStepOfTwo}
 use Rattle.am_rules.proofs.Concluded.{factor-step, reflex-step, resolve-step, para-step, rewrite-step, close-step}
 use Rattle.am_search.specs.Members.{row_at}
@@ -152,6 +152,6 @@ module _ (sig : Signature) (ins : List SortId) (from : Sources) where
         (Steps (R.Rewrite n j side k i path))
         (λ one x. by-rewrite n j side k i path (is-one j one) x) e
     replayed (R.Close n) e =
-        by-one (R.Close n) close (λ g. closed sig ins g) n (row_at rows n)
+        by-one (R.Close n) close (λ g. closed_off sig ins g) n (row_at rows n)
         (λ f r s. record { follows = f; sorted = s.sorted; numbered = s.numbered })
         (λ r a x. close-step sig ins m r.clause a.numbered a.sorted x) refl e

@@ -10,15 +10,15 @@ use Rattle.am_clause.specs.declared.row.Row.{Row}
 use Rattle.am_clause.specs.declared.row.Rule.TheVariants as R
 use Rattle.am_clause.specs.Steps.{Sources, AreSteps}
 use Rattle.am_clause.specs.Variables.{variables}
+use Rattle.am_rules.specs.Inference.{row_of}
 use Rattle.am_agenda.specs.declared.wait_row.WaitRow.{WaitRow}
-use Rattle.am_rules.specs.Conclusions.{closed}
-use Rattle.am_search.specs.Members.{is_empty, kept, processed, row_at}
+use Rattle.am_rules.specs.Conclusions.{closed_off}
+use Rattle.am_search.specs.Members.{is_empty, kept_rows, processed, row_at}
 use Rattle.am_search.specs.Plain.{kept_or_closed, last_or, dropped_or, rewritten_or, big_or, fate_of, Judged, fated}
-use Rattle.am_search.specs.Plain.{prepare, when_quiet, begun, started, next_start, joined, at_first, judged, rest}
-use Rattle.am_search.specs.Plain.{History, Start, Then, Choose, Infer, rows, choices, Infers, Follows, due_at}
+use Rattle.am_search.specs.Plain.{prepare, when_quiet, begun, start_prepared, next_start, row_judged, at_first, judged, rest}
+use Rattle.am_search.specs.Plain.{History, Start, Then, Choose, Infer, rows, choices, Infers, EachIsDue, due_at}
 use Rattle.am_search.specs.Plain.{wait_list}
 use Rattle.am_search.specs.Rules.{Rules, rules_of, ends, rules_of-is_last, rules_of-has_answer, rules_of-close_of}
-use Rattle.am_search.specs.Turn.{row_of}
 use Rattle.am_search.specs.declared.fate.Fate.{Fate}
 use Rattle.am_search.specs.declared.fate.Fate.TheVariants.{Last}
 use Rattle.am_search.specs.declared.fate.Prepared.{Prepared}
@@ -45,10 +45,10 @@ end-has c b e a = (
 )
 
 closes-end : (sig : Signature) (ins : List SortId) (n : ℕ) (p : Clause) → IsProper sig ins p → (b : Bool) (x : Row)
-    → (if b then option_map (row_of (R.Close n)) (closed sig ins p) else None) ≡ Some x → HasEnd x.clause true
-closes-end sig ins n p h true x e = by (closed sig ins p) refl e
+    → (if b then option_map (row_of (R.Close n)) (closed_off sig ins p) else None) ≡ Some x → HasEnd x.clause true
+closes-end sig ins n p h true x e = by (closed_off sig ins p) refl e
   where
-    by : (o : Option Made) → closed sig ins p ≡ o → option_map (row_of (R.Close n)) o ≡ Some x → HasEnd x.clause true
+    by : (o : Option Made) → closed_off sig ins p ≡ o → option_map (row_of (R.Close n)) o ≡ Some x → HasEnd x.clause true
     by None is e = absurd cc
     by (Some m) is e =
         let same : row_of (R.Close n) m ≡ x = cc in
@@ -144,7 +144,7 @@ module _ (sig : Signature) (ins : List SortId) (most axioms starting : ℕ) wher
     module _ (rs : List Row) (ns : List ℕ) (fates : List Prepared) where
       rewritten-says : (o : Option Row) → Says row (rewritten_or the_rules rs fates n row o)
       rewritten-says (Some x) = record { ended = λ b is. absurd cc; closes = λ r is. absurd cc }
-      rewritten-says None = dropped-says (the_rules.reason (kept the_rules.axioms rs fates) row)
+      rewritten-says None = dropped-says (the_rules.reason (kept_rows the_rules.axioms rs fates) row)
 
       big-says : (o : Option Reason) → Says row (big_or the_rules rs ns fates n row o)
       big-says (Some reason) = record { ended = λ b is. absurd cc; closes = λ r is. absurd cc }
@@ -167,13 +167,13 @@ module _ (sig : Signature) (ins : List SortId) (most axioms starting : ℕ) wher
     begun-good : (left : ℕ) (j : Judged) → Good rs j → Good rs (begun the_rules rs ns left j)
     begun-good zero j g = g
     begun-good (suc left) j g =
-        when-good j.stage (begun the_rules rs ns left (started the_rules rs ns left j)) j
-        (begun-good left (started the_rules rs ns left j)
+        when-good j.stage (begun the_rules rs ns left (start_prepared the_rules rs ns left j)) j
+        (begun-good left (start_prepared the_rules rs ns left j)
         (prepare-good (next_start the_rules j.left) (row_at rs (next_start the_rules j.left)) (record j { left = left })
         (λ row e. e) (record { ended = g.ended; closes = g.closes }))) g
 
     joined-good : (n : ℕ) (row : Row) (s : Stage) (j : Judged) → row_at rs n ≡ Some row
-        → ((r : Row) → s ≡ Closes r → HasEnd row.clause true) → Good rs j → Good rs (joined the_rules rs ns n row s j)
+        → ((r : Row) → s ≡ Closes r → HasEnd row.clause true) → Good rs j → Good rs (row_judged the_rules rs ns n row s j)
     joined-good n row Quiet j at_ c g = prepare-good n (Some row) j (λ r e. at_ ∙ e) g
     joined-good n row (Makes x) j at_ c g = prepare-good n (Some row) j (λ r e. at_ ∙ e) g
     joined-good n row (Closes x) j at_ c g =
@@ -186,8 +186,8 @@ module _ (sig : Signature) (ins : List SortId) (most axioms starting : ℕ) wher
     joined-good n row (Ended b) j at_ c g = g
 
   module _ (from : Sources) (start : List Row)
-      (proof : (h : History) → Follows the_rules start h → AreSteps sig ins from [] (rows start h)) where
-    all-good : (h : History) → Follows the_rules start h → Good (rows start h) (judged the_rules start h)
+      (proof : (h : History) → EachIsDue the_rules start h → AreSteps sig ins from [] (rows start h)) where
+    all-good : (h : History) → EachIsDue the_rules start h → Good (rows start h) (judged the_rules start h)
     all-good Start f =
         begun-good from start (proof Start f) [] (the_rules.starting - the_rules.axioms) (at_first the_rules)
         (record { ended = λ b is. absurd cc; closes = λ r is. absurd cc })
@@ -196,7 +196,7 @@ module _ (sig : Signature) (ins : List SortId) (most axioms starting : ℕ) wher
         let rs : List Row = rows start h ++ row ∷ [] in
         let j : Judged = judged the_rules start h in
         let n : ℕ = length (rows start h) + 1 in
-        let k : Judged = joined the_rules rs (choices h) n row j.stage j in
+        let k : Judged = row_judged the_rules rs (choices h) n row j.stage j in
         let g = all-good h f.1 in
         let steps = proof (Then h (Infer row)) f in
         begun-good from rs steps (choices h) k.left k
@@ -206,6 +206,6 @@ module _ (sig : Signature) (ins : List SortId) (most axioms starting : ℕ) wher
         (good-more (rows start h) (row ∷ []) j g))
 
     -- where the search is at its end by a row
-    pub ends-by : (h : History) → Follows the_rules start h → (b : Bool) → (judged the_rules start h).stage ≡ Ended b
+    pub ends-by : (h : History) → EachIsDue the_rules start h → (b : Bool) → (judged the_rules start h).stage ≡ Ended b
         → EndsBy (rows start h) (judged the_rules start h).fates b
     ends-by h f b is = (all-good h f).ended b is

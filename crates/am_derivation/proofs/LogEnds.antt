@@ -12,12 +12,12 @@ use Rattle.am_theory.specs.declared.theory.Theory.{Theory}
 use Rattle.am_theory.specs.Facts.{WellFormed}
 use Rattle.am_diagram.specs.declared.diagram.Diagram.{Diagram}
 use Rattle.am_diagram.specs.Facts.{WellFormed as WellDrawn}
-use Rattle.am_diagram.specs.Listed.{sorts_in}
+use Rattle.am_diagram.specs.Listed.{entry_sorts}
 use Rattle.am_diagram.specs.Steps.{sources, IsProof}
 use Rattle.am_lineage.proofs.Lineage.{ancestors-end}
 use Rattle.am_search.specs.Members.{row_at}
 use Rattle.am_search.specs.Outcomes.{last_from}
-use Rattle.am_search.specs.Plain.{History, Follows, rows, judged, rest, wait_list, inferences}
+use Rattle.am_search.specs.Plain.{History, EachIsDue, rows, judged, rest, wait_list, inferences}
 use Rattle.am_search.specs.Plain.{Due, Ends, Infers, Chooses, due, due_at, due_turn, end_by}
 use Rattle.am_search.specs.Rules.{Rules}
 use Rattle.am_search.specs.Searched.{IsLogOf, HasLog, end_of, rules_for}
@@ -101,7 +101,7 @@ log-ends t d rs fates log b s e l =
     ap (option_map (λ (x : Row). x.clause)) (found rs n e.row at_) in
     record {
       clause = e.row.clause;
-      ends = ancestors-end rs n log l.ancestors t.sig (sorts_in d.inputs) (sources t d) s e.row.clause there;
+      ends = ancestors-end rs n log l.ancestors t.sig (entry_sorts d.inputs) (sources t d) s e.row.clause there;
       has = e.has;
     }
 
@@ -126,7 +126,7 @@ contradiction-ends : (log : List Row) → EndsAs log false → clause_at log (le
 contradiction-ends log e = e.ends ∙ ap Some (without-answer e.clause.literals e.clause.answer e.has.0 e.has.2)
 
 module _ (t : Theory) (d : Diagram) (wt : WellFormed t) (wd : WellDrawn t d) (weight limit : ℕ) (h : History)
-    (follows : Follows (rules_for t d weight) (starting_rows t d) h) where
+    (follows : EachIsDue (rules_for t d weight) (starting_rows t d) h) where
   abbrev all : List Row
   all = rows (starting_rows t d) h
 
@@ -139,7 +139,7 @@ module _ (t : Theory) (d : Diagram) (wt : WellFormed t) (wd : WellDrawn t d) (we
 
   row-ends : (b : Bool) → Over (by_answer b) → EndsBy all fates b
   row-ends b is =
-      ends-by t.sig (sorts_in d.inputs) weight (length (theory_rows t)) (length (starting_rows t d)) (sources t d)
+      ends-by t.sig (entry_sorts d.inputs) weight (length (theory_rows t)) (length (starting_rows t d)) (sources t d)
       (starting_rows t d) (histories-proofs t d wt wd weight) h follows b
       (ended-stage (rules_for t d weight) (starting_rows t d) h limit b is)
 

@@ -4,7 +4,7 @@ use Rattle.std.proofs.lemmas.List.{length-append}
 use Rattle.am_clause.specs.declared.row.Row.{Row}
 use Rattle.am_theory.specs.declared.theory.Theory.{Theory}
 use Rattle.am_diagram.specs.declared.diagram.Diagram.{Diagram}
-use Rattle.am_diagram.specs.Listed.{sorts_in}
+use Rattle.am_diagram.specs.Listed.{entry_sorts}
 use Rattle.am_diagram.specs.Steps.{sources, IsProof}
 use Rattle.am_lineage.proofs.Lineage.{ancestors-are-steps}
 use Rattle.am_search.specs.Laws.{entries_made}
@@ -26,7 +26,7 @@ module _ (t : Theory) (d : Diagram) where
   log-proof : (rs : List Row) (fates : List Prepared) (log : List Row) → IsProof t d rs → IsLogOf rs fates log
       → IsProof t d log
   log-proof rs fates log s l =
-      ancestors-are-steps rs l.last.number log l.ancestors t.sig (sorts_in d.inputs) (sources t d) s
+      ancestors-are-steps rs l.last.number log l.ancestors t.sig (entry_sorts d.inputs) (sources t d) s
 
   outcome-proof : (rs : List Row) (fates : List Prepared) (o : Outcome) → IsProof t d rs → HasLog rs fates o
       → LogIsProof t d o
@@ -57,5 +57,5 @@ entries-counted t d limits pick o s =
     let c : Rules = rules_for t d limits.weight in
     let start : List Row = starting_rows t d in
     ap length (sym s.entries_are ∙ entries_law c start s.history
-    (rules_of-starting t.sig (sorts_in d.inputs) limits.weight (length (theory_rows t)) (length start)) s.plain.follows)
+    (rules_of-starting t.sig (entry_sorts d.inputs) limits.weight (length (theory_rows t)) (length start)) s.plain.follows)
     ∙ counted c start s.history

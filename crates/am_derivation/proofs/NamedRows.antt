@@ -13,10 +13,11 @@ use Rattle.am_clause.specs.declared.row.Rule.{Rule}
 use Rattle.am_clause.specs.declared.row.Rule.TheVariants as R
 use Rattle.am_clause.specs.declared.row.Side.{Side}
 use Rattle.am_rules.specs.Conclusions.{reflexed, rewritten}
-use Rattle.am_search.specs.Candidates.{between, alone}
+use Rattle.am_rules.specs.Inference.{row_of}
+use Rattle.am_search.specs.Candidates.{candidates_between, candidates_alone}
 use Rattle.am_search.specs.Members.{Member, source_of, clause_row, clause_rows}
 use Rattle.am_search.specs.Rules.{step_row, step_rule}
-use Rattle.am_search.specs.Turn.{row_of, rule_of, tried, made_by, made_with, turn, all_made}
+use Rattle.am_search.specs.Turn.{rule_of, tried, row_made, made_with, turn, all_made}
 use Rattle.am_search.specs.declared.candidate.Candidate.{Candidate}
 use Rattle.am_search.specs.declared.candidate.Candidate.TheVariants.{Factor, Reflex, Resolve, Para}
 use Rattle.am_search.specs.declared.candidate.Way.TheVariants.{Inward, Outward}
@@ -75,8 +76,8 @@ module _ (F : ℕ → Type 0) where
   module _ (sig : Signature) (ins : List SortId) where
     module _ (axioms : ℕ) (g : Member) (stands : Stands g) where
       made-named : (p : Member) → Stands p → (x : Candidate) (row : Row)
-          → made_by sig ins (source_of axioms g) (source_of axioms p) x ≡ Some row → Named row
-      unfolding made_by
+          → row_made sig ins (source_of axioms g) (source_of axioms p) x ≡ Some row → Named row
+      unfolding row_made
       made-named p a x row e =
           mapped (rule_of g.number p.number x) (candidate-named g.number p.number stands a x)
           (tried sig ins g.row.clause p.row.clause x) row e
@@ -87,17 +88,17 @@ module _ (F : ℕ → Type 0) where
       partners-named (m ∷ ms) a =
           all-append Named (made_with sig ins (source_of axioms g) (source_of axioms m))
           (flat_map (made_with sig ins (source_of axioms g)) (map (source_of axioms) ms))
-          (all-made Named (made_by sig ins (source_of axioms g) (source_of axioms m))
-          (between sig (source_of axioms g) (source_of axioms m)) (made-named m a.0))
+          (all-made Named (row_made sig ins (source_of axioms g) (source_of axioms m))
+          (candidates_between sig (source_of axioms g) (source_of axioms m)) (made-named m a.0))
           (partners-named ms a.1)
 
       pub turn-named : (ms : List Member) → AllByRecursion Stands ms
           → AllByRecursion Named (turn sig ins (source_of axioms g) (map (source_of axioms) ms))
       unfolding turn
       turn-named ms a =
-          all-append Named (all_made sig ins (source_of axioms g) (source_of axioms g) (alone (source_of axioms g)))
+          all-append Named (all_made sig ins (source_of axioms g) (source_of axioms g) (candidates_alone (source_of axioms g)))
           (flat_map (made_with sig ins (source_of axioms g)) (map (source_of axioms) ms))
-          (all-made Named (made_by sig ins (source_of axioms g) (source_of axioms g)) (alone (source_of axioms g))
+          (all-made Named (row_made sig ins (source_of axioms g) (source_of axioms g)) (candidates_alone (source_of axioms g))
           (made-named g stands))
           (partners-named ms a)
 

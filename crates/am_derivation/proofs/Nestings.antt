@@ -13,6 +13,7 @@ use Rattle.am_term.specs.declared.term.Atom.TheVariants.{Rel, Eq}
 use Rattle.am_term.specs.declared.term.Literal.{Literal}
 use Rattle.am_term.specs.declared.term.Term.{Term}
 use Rattle.am_term.specs.declared.term.Term.TheVariants.{App}
+use Rattle.am_term.specs.Parts.{parts_of}
 use Rattle.am_clause.specs.Size.{atom_weight, literal_weight, clause_weight}
 use Rattle.am_clause.specs.declared.clause.Clause.{Clause}
 use Rattle.am_clause.specs.declared.row.Row.{Row}
@@ -20,7 +21,7 @@ use Rattle.am_simplify.specs.Reasons.{is_wide, are_heavy, is_heavy_answer, is_he
 use Rattle.am_simplify.specs.declared.reason.Reason.{Reason}
 use Rattle.am_simplify.specs.declared.reason.Reason.TheVariants.{Wide, Heavy}
 use Rattle.am_derivation.specs.Sizes.{nesting, nesting-Var, nesting-In, nesting-App, NestingIsFew}
-use Rattle.am_derivation.specs.Sizes.{IsSmall, IsLow, AreLow, IsOfAxiom, BesideAxioms, LogIs, terms_of, answer_terms}
+use Rattle.am_derivation.specs.Sizes.{IsSmall, IsLow, AreLow, IsOfAxiom, BesideAxioms, LogIs, terms_of_answer}
 use Rattle.am_search.specs.declared.outcome.Outcome.{Outcome}
 use Rattle.am_search.specs.declared.outcome.Outcome.TheVariants.{Found, Spent, Exhausted, Contradiction}
 
@@ -78,7 +79,7 @@ module _ (most : ℕ) where
       let a = or-false (nat_lt most (nodes t)) (are_heavy most ts) e in
       (below (nesting t) (nodes t) (nesting-few t) a.0, low-terms ts a.1)
 
-  low-answer : (o : Option (List Term)) → is_heavy_answer most o ≡ false → AreLow most (answer_terms o)
+  low-answer : (o : Option (List Term)) → is_heavy_answer most o ≡ false → AreLow most (terms_of_answer o)
   low-answer None e = tt
   low-answer (Some ts) e = low-terms ts e
 
@@ -96,7 +97,7 @@ module _ (most : ℕ) where
       let both : sum_by nodes (t ∷ ts) ≡ nodes t + sum_by nodes ts = sum_by-cons nodes t ts in
       (omega arith, low-sum ts m (omega arith) k)
 
-  low-atom : (a : Atom) (m : ℕ) → atom_weight a ≤ m → m ≤ most → AreLow most (terms_of a)
+  low-atom : (a : Atom) (m : ℕ) → atom_weight a ≤ m → m ≤ most → AreLow most (parts_of a)
   low-atom (Rel r args) m h k = low-sum args m h k
   low-atom (Eq left right) m h k =
       let few : nesting left ≤ nodes left = nesting-few left in
@@ -104,7 +105,7 @@ module _ (most : ℕ) where
       (omega arith, (omega arith, tt))
 
   low-literals : (ls : List Literal) (m : ℕ) → sum_by literal_weight ls ≤ m → m ≤ most
-      → AllByRecursion (λ (l : Literal). AreLow most (terms_of l.atom)) ls
+      → AllByRecursion (λ (l : Literal). AreLow most (parts_of l.atom)) ls
   low-literals [] m h k = tt
   low-literals (l ∷ ls) m h k =
       let both : sum_by literal_weight (l ∷ ls) ≡ literal_weight l + sum_by literal_weight ls =

@@ -24,7 +24,7 @@ use Rattle.am_clause.specs.Variables.{Variable, variables, occurrences-none}
 use Rattle.am_clause.specs.declared.clause.Clause.{Clause}
 use Rattle.am_clause.specs.declared.row.Made.{Made}
 use Rattle.am_rules.specs.Closing.{input_for, constant_for, constant_term, closing_term, IsClosing, AnswersClosing}
-use Rattle.am_rules.specs.Conclusions.{closed}
+use Rattle.am_rules.specs.Conclusions.{closed_off}
 use Rattle.am_rules.proofs.Concluded.{closed-answers}
 use Rattle.am_simplify.specs.Reasons.{are_heavy, is_heavy_answer, reason_if, too_big}
 use Rattle.am_simplify.specs.Steps.{IsProper}
@@ -151,7 +151,7 @@ module _ (most : ℕ) where
       (no-or (nat_lt most 0) (is_heavy_answer most a) (are_heavy most xs) no-weight e h)
 
   pub closes-small : (sig : Signature) (ins : List SortId) (p : Clause) (with : List (List Term)) → IsProper sig ins p
-      → too_big most p with ≡ None → (m : Made) → closed sig ins p ≡ Some m → too_big most m.clause m.with ≡ None
+      → too_big most p with ≡ None → (m : Made) → closed_off sig ins p ≡ Some m → too_big most m.clause m.with ≡ None
   closes-small sig ins p with h small m e =
       let c : IsClosing sig ins p m = subst (AnswersClosing sig ins p) e (closed-answers sig ins p h.numbered) in
       let xs : List Term = c.first in

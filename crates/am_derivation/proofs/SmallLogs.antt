@@ -11,7 +11,7 @@ use Rattle.am_clause.specs.declared.row.Row.{Row}
 use Rattle.am_theory.specs.declared.theory.Theory.{Theory}
 use Rattle.am_diagram.specs.declared.diagram.Diagram.{Diagram}
 use Rattle.am_diagram.specs.Clauses.{goal, givens}
-use Rattle.am_diagram.specs.Listed.{sorts_in}
+use Rattle.am_diagram.specs.Listed.{entry_sorts}
 use Rattle.am_diagram.specs.Steps.{formulas_of, sources}
 use Rattle.am_search.specs.Plain.{History, Start, Then, Choose, Infer, rows, judged}
 use Rattle.am_search.specs.Rules.{rules_of-axioms}
@@ -73,7 +73,7 @@ search-axioms t d weight h =
     let is : rows (starting_rows t d) h ≡ theory_rows t ++ (asked ++ m.0) =
     m.1 ∙ append_assoc (theory_rows t) asked m.0 in
     let many : (rules_for t d weight).axioms ≡ length (theory_rows t) =
-    rules_of-axioms t.sig (sorts_in d.inputs) weight (length (theory_rows t)) (length (starting_rows t d)) in
+    rules_of-axioms t.sig (entry_sorts d.inputs) weight (length (theory_rows t)) (length (starting_rows t d)) in
     subst (λ (n : ℕ). AxiomsFirst n (rows (starting_rows t d) h)) (sym many)
     (subst (AxiomsFirst (length (theory_rows t))) (sym is)
     (first-axioms (theory_rows t) (asked ++ m.0) (all-axioms 1 (formulas_of t))))
@@ -106,7 +106,7 @@ logs-small t d wt wd limits pick o s =
     let axioms : ℕ = length (theory_rows t) in
     let first = search-axioms t d most in
     let proof = histories-proofs t d wt wd most in
-    let stands = all-standing most t.sig (sorts_in d.inputs) axioms (length start) (sources t d) pick start
+    let stands = all-standing most t.sig (entry_sorts d.inputs) axioms (length start) (sources t d) pick start
     (starting_bare t d) first proof s.history s.plain.follows s.picked in
     outcome-fits most (rows start s.history) (judged (rules_for t d most) start s.history).fates
     stands.fitting.fates stands.all o s.log_is

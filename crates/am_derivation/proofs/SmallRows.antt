@@ -8,16 +8,16 @@ use Rattle.am_clause.specs.declared.row.Made.{Made}
 use Rattle.am_clause.specs.declared.row.Row.{Row}
 use Rattle.am_clause.specs.declared.row.Rule.TheVariants as R
 use Rattle.am_clause.specs.Steps.{Sources, AreSteps}
+use Rattle.am_rules.specs.Inference.{row_of}
 use Rattle.am_agenda.specs.declared.wait_row.WaitRow.{WaitRow}
-use Rattle.am_rules.specs.Conclusions.{closed}
-use Rattle.am_search.specs.Members.{is_empty, kept, processed, row_at}
+use Rattle.am_rules.specs.Conclusions.{closed_off}
+use Rattle.am_search.specs.Members.{is_empty, kept_rows, processed, row_at}
 use Rattle.am_search.specs.Plain.{kept_or_closed, last_or, dropped_or, rewritten_or, big_or, fate_of, Judged, fated}
-use Rattle.am_search.specs.Plain.{prepare, when_quiet, begun, started, next_start, joined, at_first, judged, rest}
-use Rattle.am_search.specs.Plain.{History, Start, Then, Choose, Infer, rows, choices, Infers, Follows, due_at}
+use Rattle.am_search.specs.Plain.{prepare, when_quiet, begun, start_prepared, next_start, row_judged, at_first, judged, rest}
+use Rattle.am_search.specs.Plain.{History, Start, Then, Choose, Infer, rows, choices, Infers, EachIsDue, due_at}
 use Rattle.am_search.specs.Plain.{wait_list, turn_at, rest_after, Pick, Picked, lists_shown}
 use Rattle.am_search.specs.Replay.{HasNoParents}
 use Rattle.am_search.specs.Rules.{Rules, rules_of, rules_of-close_of, rules_of-too_big, rules_of-step_of, rules_of-turn}
-use Rattle.am_search.specs.Turn.{row_of}
 use Rattle.am_search.specs.declared.fate.Fate.{Fate}
 use Rattle.am_search.specs.declared.fate.Fate.TheVariants.{Last}
 use Rattle.am_search.specs.declared.fate.Prepared.{Prepared}
@@ -108,10 +108,10 @@ module _ (most : ℕ) where
     the_rules = rules_of sig ins most axioms starting
 
     close-small : (n : ℕ) (row : Row) → IsProper sig ins row.clause → IsSmall most row → (b : Bool) (x : Row)
-        → (if b then option_map (row_of (R.Close n)) (closed sig ins row.clause) else None) ≡ Some x → IsSmall most x
-    close-small n row proper small true x e = by (closed sig ins row.clause) refl e
+        → (if b then option_map (row_of (R.Close n)) (closed_off sig ins row.clause) else None) ≡ Some x → IsSmall most x
+    close-small n row proper small true x e = by (closed_off sig ins row.clause) refl e
       where
-        by : (o : Option Made) → closed sig ins row.clause ≡ o → option_map (row_of (R.Close n)) o ≡ Some x
+        by : (o : Option Made) → closed_off sig ins row.clause ≡ o → option_map (row_of (R.Close n)) o ≡ Some x
             → IsSmall most x
         by None is e = absurd cc
         by (Some m) is e =
@@ -131,12 +131,12 @@ module _ (most : ℕ) where
         closed-says None e = record { fate = fits-so; stage = tt }
         closed-says (Some x) e =
             let b : Bool = is_empty row.clause.literals && is_some row.clause.answer in
-            let made : (if b then option_map (row_of (R.Close n)) (closed sig ins row.clause) else None) ≡ Some x =
+            let made : (if b then option_map (row_of (R.Close n)) (closed_off sig ins row.clause) else None) ≡ Some x =
             sym (rules_of-close_of sig ins most axioms starting n row) ∙ e in
             record {
               fate = fits-so;
               stage = (
-                close-named (FitsAt most rs) n fits-so b (closed sig ins row.clause) x made,
+                close-named (FitsAt most rs) n fits-so b (closed_off sig ins row.clause) x made,
                 close-small n row proper small b x made,
               );
             }
@@ -154,7 +154,7 @@ module _ (most : ℕ) where
         rewritten-says : IsSmall most row → (o : Option Row)
             → the_rules.step_of (processed the_rules.axioms rs ns) n row ≡ o
             → Says rs n (rewritten_or the_rules rs fates n row o)
-        rewritten-says small None e = dropped-says small (the_rules.reason (kept the_rules.axioms rs fates) row)
+        rewritten-says small None e = dropped-says small (the_rules.reason (kept_rows the_rules.axioms rs fates) row)
         rewritten-says small (Some x) e = record {
           fate = fits-so small;
           stage = step-named (FitsAt most rs) sig ins n (fits-so small) row.clause (processed the_rules.axioms rs ns)
@@ -188,14 +188,14 @@ module _ (most : ℕ) where
       begun-fitting : (left : ℕ) (j : Judged) → Fitting rs j → Fitting rs (begun the_rules rs ns left j)
       begun-fitting zero j g = g
       begun-fitting (suc left) j g =
-          when-fitting j.stage (begun the_rules rs ns left (started the_rules rs ns left j)) j
-          (begun-fitting left (started the_rules rs ns left j)
+          when-fitting j.stage (begun the_rules rs ns left (start_prepared the_rules rs ns left j)) j
+          (begun-fitting left (start_prepared the_rules rs ns left j)
           (prepare-fitting (next_start the_rules j.left) (row_at rs (next_start the_rules j.left))
           (record j { left = left }) (λ row e. e) (record { fates = g.fates; stage = g.stage }))) g
 
       joined-fitting : (n : ℕ) (row : Row) (s : Stage) (j : Judged) → row_at rs n ≡ Some row
           → ((x : Row) → s ≡ Closes x → IsSmall most row) → Fitting rs j
-          → Fitting rs (joined the_rules rs ns n row s j)
+          → Fitting rs (row_judged the_rules rs ns n row s j)
       joined-fitting n row Quiet j at_ c g = prepare-fitting n (Some row) j (λ r e. at_ ∙ e) g
       joined-fitting n row (Makes x) j at_ c g = prepare-fitting n (Some row) j (λ r e. at_ ∙ e) g
       joined-fitting n row (Closes x) j at_ c g =
@@ -213,7 +213,7 @@ module _ (most : ℕ) where
 
     module _ (from : Sources) (pick : Pick) (start : List Row) (bare : AllByRecursion HasNoParents start)
         (first : (h : History) → AxiomsFirst the_rules.axioms (rows start h))
-        (proof : (h : History) → Follows the_rules start h → AreSteps sig ins from [] (rows start h)) where
+        (proof : (h : History) → EachIsDue the_rules start h → AreSteps sig ins from [] (rows start h)) where
       -- all rows that are named, chosen or left of a turn are such
       pub record Standing (h : History) : Type 0 where
         pub fitting : Fitting (rows start h) (judged the_rules start h)
@@ -221,7 +221,7 @@ module _ (most : ℕ) where
         pub left : AllByRecursion (RestsWell most (rows start h)) (rest the_rules start h)
         pub all : AllByRecursion (RestsWell most (rows start h)) (rows start h)
 
-      chooses : (h : History) (n : ℕ) → Follows the_rules start h → Picked pick the_rules start (Then h (Choose n))
+      chooses : (h : History) (n : ℕ) → EachIsDue the_rules start h → Picked pick the_rules start (Then h (Choose n))
           → Standing h → Standing (Then h (Choose n))
       chooses h n f p s =
           let rs : List Row = rows start h in
@@ -237,14 +237,14 @@ module _ (most : ℕ) where
             all = s.all;
           }
 
-      infers : (h : History) (row : Row) → Follows the_rules start (Then h (Infer row)) → Standing h
+      infers : (h : History) (row : Row) → EachIsDue the_rules start (Then h (Infer row)) → Standing h
           → Standing (Then h (Infer row))
       infers h row f s =
           let rs : List Row = rows start h in
           let more : List Row = row ∷ [] in
           let j : Judged = judged the_rules start h in
           let n : ℕ = length rs + 1 in
-          let k : Judged = joined the_rules (rs ++ more) (choices h) n row j.stage j in
+          let k : Judged = row_judged the_rules (rs ++ more) (choices h) n row j.stage j in
           let waits : List WaitRow = wait_list the_rules start h in
           let steps = proof (Then h (Infer row)) f in
           let ax = first (Then h (Infer row)) in
@@ -263,7 +263,7 @@ module _ (most : ℕ) where
                 (rests-more most rs more row rests);
           }
 
-      pub all-standing : (h : History) → Follows the_rules start h → Picked pick the_rules start h → Standing h
+      pub all-standing : (h : History) → EachIsDue the_rules start h → Picked pick the_rules start h → Standing h
       all-standing Start f p = record {
         fitting = begun-fitting from start (proof Start f) (first Start) [] tt (the_rules.starting - the_rules.axioms)
             (at_first the_rules) (record { fates = tt; stage = tt });

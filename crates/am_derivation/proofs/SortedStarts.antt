@@ -22,15 +22,16 @@ use Rattle.am_clause.specs.Variables.{Variable, same_variable, occurrences, occu
 use Rattle.am_clause.specs.Variables.{variables, occurrences-none, occurrences-more}
 use Rattle.am_clause.proofs.Occurring.{among-occurs}
 use Rattle.am_clause.proofs.Places.{same_variable-refl}
+use Rattle.am_clause.specs.Goals.{given_clause, negated}
 use Rattle.am_theory.specs.declared.theory.Axiom.{Axiom}
 use Rattle.am_theory.specs.declared.theory.Rep.{Rep}
 use Rattle.am_theory.specs.declared.theory.Theory.{Theory}
 use Rattle.am_theory.specs.Facts.{IsAxiom, IsConcrete, WellFormed}
 use Rattle.am_theory.specs.Lookups.{known}
 use Rattle.am_diagram.specs.declared.diagram.Diagram.{Diagram}
-use Rattle.am_diagram.specs.Clauses.{negated, variables_from, output_terms, goal, given_clause, givens}
+use Rattle.am_diagram.specs.Clauses.{entry_variables_from, output_terms, goal, givens}
 use Rattle.am_diagram.specs.Facts.{NoVariable, NoVariables, WellFormed as WellDrawn}
-use Rattle.am_diagram.specs.Listed.{sorts_in}
+use Rattle.am_diagram.specs.Listed.{entry_sorts}
 use Rattle.am_diagram.specs.Steps.{formulas_of}
 use Rattle.am_simplify.specs.Steps.{IsProper}
 use Rattle.am_derivation.proofs.SortedForms.{renumbered-proper, cnf-proper}
@@ -67,12 +68,12 @@ module _ (t : Theory) (ins : List SortId) (reps : length t.reps ≡ length t.sig
       let low : s.0 < length t.sig.sorts = subst (λ (k : ℕ). s.0 < k) reps (known-at t.reps s.0 h) in
       ap is_some (sort_of-Var t.sig ins n s) ∙ some-if _ s (lt-ltb s.0 (length t.sig.sorts) low)
 
-  variables-sorted : (n : ℕ) (es : List (List ℕ × SortId)) → AllByRecursion (IsConcrete t) (sorts_in es)
-      → list_all (λ x. is_some (sort_of t.sig ins x)) (variables_from n es) ≡ true
+  variables-sorted : (n : ℕ) (es : List (List ℕ × SortId)) → AllByRecursion (IsConcrete t) (entry_sorts es)
+      → list_all (λ x. is_some (sort_of t.sig ins x)) (entry_variables_from n es) ≡ true
   variables-sorted n [] h = refl
   variables-sorted n (e ∷ es) h =
       and_both (is_some (sort_of t.sig ins (Var n e.1)))
-      (list_all (λ x. is_some (sort_of t.sig ins x)) (variables_from (n + 1) es))
+      (list_all (λ x. is_some (sort_of t.sig ins x)) (entry_variables_from (n + 1) es))
       (variable-sorted n e.1 h.0) (variables-sorted (n + 1) es h.1)
 
 negated-sorted : (sig : Signature) (ins : List SortId) (ls : List Literal)
@@ -87,10 +88,10 @@ abbrev asked : List Literal → List Term → Clause
 asked ls ts = record { literals = map negated ls; answer = Some ts }
 
 pub goal-proper : (t : Theory) (d : Diagram) → WellFormed t → WellDrawn t d
-    → IsProper t.sig (sorts_in d.inputs) (goal d)
+    → IsProper t.sig (entry_sorts d.inputs) (goal d)
 unfolding goal
 goal-proper t d h k =
-    let ins : List SortId = sorts_in d.inputs in
+    let ins : List SortId = entry_sorts d.inputs in
     renumbered-proper t.sig ins (asked d.required (output_terms d))
     (and_both (list_all (is_sorted_literal t.sig ins) (map negated d.required))
     (list_all (λ x. is_some (sort_of t.sig ins x)) (output_terms d))
@@ -142,6 +143,6 @@ givens-from sig ins (l ∷ ls) h k = (
 )
 
 pub givens-proper : (t : Theory) (d : Diagram) → WellDrawn t d
-    → AllByRecursion (IsProper t.sig (sorts_in d.inputs)) (givens d)
+    → AllByRecursion (IsProper t.sig (entry_sorts d.inputs)) (givens d)
 unfolding givens
-givens-proper t d k = givens-from t.sig (sorts_in d.inputs) d.givens k.givens_sorted k.givens_closed
+givens-proper t d k = givens-from t.sig (entry_sorts d.inputs) d.givens k.givens_sorted k.givens_closed

@@ -20,7 +20,7 @@ use Rattle.am_theory.specs.Facts.{WellFormed}
 use Rattle.am_diagram.specs.declared.diagram.Diagram.{Diagram}
 use Rattle.am_diagram.specs.Clauses.{goal, givens}
 use Rattle.am_diagram.specs.Facts.{WellFormed as WellDrawn}
-use Rattle.am_diagram.specs.Listed.{sorts_in}
+use Rattle.am_diagram.specs.Listed.{entry_sorts}
 use Rattle.am_diagram.specs.Steps.{formulas_of, IsProof}
 use Rattle.am_search.specs.Starting.{goal_row, clause_rows_of, axiom_rows, given_rows}
 use Rattle.am_search.specs.Starting.{theory_rows, starting_rows}
@@ -108,7 +108,7 @@ module _ (sig : Signature) (ins : List SortId) (axioms : List Formula) (asked : 
 
 pub starting-proof : (t : Theory) (d : Diagram) → WellFormed t → WellDrawn t d → IsProof t d (starting_rows t d)
 starting-proof t d h k =
-    let ins : List SortId = sorts_in d.inputs in
+    let ins : List SortId = entry_sorts d.inputs in
     let fs : List Formula = formulas_of t in
     steps-all t.sig ins fs (goal d) (givens d) [] (starting_rows t d)
     (all-append (Starts t.sig ins fs (goal d) (givens d)) (theory_rows t) (goal_row (goal d) ∷ given_rows 1 (givens d))

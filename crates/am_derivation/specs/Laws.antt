@@ -10,7 +10,7 @@ use Rattle.am_theory.specs.Facts.{WellFormed}
 use Rattle.am_diagram.specs.declared.diagram.Diagram.{Diagram}
 use Rattle.am_diagram.specs.Facts.{WellFormed as WellDrawn}
 use Rattle.am_diagram.specs.Steps.{IsProof}
-use Rattle.am_search.specs.Plain.{History, Pick, Follows, rows, inferences}
+use Rattle.am_search.specs.Plain.{History, Pick, EachIsDue, rows, inferences}
 use Rattle.am_search.specs.Searched.{IsSearched, entries_in, rules_for}
 use Rattle.am_search.specs.Starting.{starting_rows}
 use Rattle.am_search.specs.declared.outcome.Limits.{Limits}
@@ -20,7 +20,7 @@ use Rattle.am_search.specs.declared.outcome.Outcome.TheVariants.{Found, Spent, E
 -- the starting rows and all inferred ones, in order, are a proof
 abbrev pub HistoriesAreProofs : Type 0
 HistoriesAreProofs = (t : Theory) (d : Diagram) → WellFormed t → WellDrawn t d → (weight : ℕ) (h : History)
-    → Follows (rules_for t d weight) (starting_rows t d) h → IsProof t d (rows (starting_rows t d) h)
+    → EachIsDue (rules_for t d weight) (starting_rows t d) h → IsProof t d (rows (starting_rows t d) h)
 
 -- where something was found or contradicts, the log is a proof
 abbrev pub LogIsProof : Theory → Diagram → Outcome → Type 0

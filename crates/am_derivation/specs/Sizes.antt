@@ -1,18 +1,17 @@
 -- How large the rows of a log are, and how deep their terms nest.
-use Rattle.std.specs.Prelude.{◌≡◌, ◌≤◌, ◌+◌, ◌⊎◌, ℕ, List, [], ◌∷◌, map, Option, Some, None}
+use Rattle.std.specs.Prelude.{◌≡◌, ◌≤◌, ◌+◌, ◌⊎◌, ℕ, List, [], map, Option, Some, None}
 use Rattle.std.specs.List.{AllByRecursion}
 use Rattle.am_term.specs.Fold.{fold-Var, fold-In, fold-App}
 use Rattle.am_term.specs.Span.{greatest}
 use Rattle.am_term.specs.Weight.{nodes}
 use Rattle.am_term.specs.declared.id.SortId.{SortId}
 use Rattle.am_term.specs.declared.id.SymId.{SymId}
-use Rattle.am_term.specs.declared.term.Atom.{Atom}
-use Rattle.am_term.specs.declared.term.Atom.TheVariants.{Rel, Eq}
 use Rattle.am_term.specs.declared.term.Literal.{Literal}
 use Rattle.am_term.specs.declared.term.Term.{Term}
 use Rattle.am_term.specs.declared.term.Term.TheFolds.{fold-Term}
 use Rattle.am_term.specs.declared.term.Term.TheOpen.{Term-F}
 use Rattle.am_term.specs.declared.term.Term.TheVariants.{Var, In, App}
+use Rattle.am_term.specs.Parts.{parts_of}
 use Rattle.am_clause.specs.declared.row.Row.{Row}
 use Rattle.am_clause.specs.declared.row.Rule.TheVariants.{Axiom}
 use Rattle.am_theory.specs.declared.theory.Theory.{Theory}
@@ -65,15 +64,10 @@ IsOfAxiom row = (k : ℕ) × (c : ℕ) × (row.rule ≡ Axiom k c)
 abbrev pub IsSmall : ℕ → Row → Type 0
 IsSmall most row = too_big most row.clause row.with ≡ None
 
--- the terms of an atom
-abbrev pub terms_of : Atom → List Term
-terms_of (Rel r args) = args
-terms_of (Eq left right) = left ∷ right ∷ []
-
 -- the terms of an answer, where there is one
-abbrev pub answer_terms : Option (List Term) → List Term
-answer_terms None = []
-answer_terms (Some ts) = ts
+abbrev pub terms_of_answer : Option (List Term) → List Term
+terms_of_answer None = []
+terms_of_answer (Some ts) = ts
 
 -- each of the terms nests at most so deep
 abbrev pub AreLow : ℕ → List Term → Type 0
@@ -81,8 +75,8 @@ AreLow most ts = AllByRecursion (λ (t : Term). nesting t ≤ most) ts
 
 -- the terms of a row nest at most so deep
 pub record IsLow (most : ℕ) (row : Row) : Type 0 where
-  pub literals : AllByRecursion (λ (l : Literal). AreLow most (terms_of l.atom)) row.clause.literals
-  pub answer : AreLow most (answer_terms row.clause.answer)
+  pub literals : AllByRecursion (λ (l : Literal). AreLow most (parts_of l.atom)) row.clause.literals
+  pub answer : AreLow most (terms_of_answer row.clause.answer)
   pub lists : AllByRecursion (AreLow most) row.with
 
 -- ---- the rows of a log

@@ -25,7 +25,7 @@ use Rattle.am_theory.proofs.Appends.{all-append, all-each, all-map, all-weaker}
 use Rattle.am_diagram.specs.declared.diagram.Diagram.{Diagram}
 use Rattle.am_diagram.specs.declared.draft.Draft.{Draft}
 use Rattle.am_diagram.specs.declared.fault.DiagramKind.TheVariants.{NoOutput, NoRequire}
-use Rattle.am_diagram.specs.Listed.{names_of, sorts_in}
+use Rattle.am_diagram.specs.Listed.{entry_names, entry_sorts}
 use Rattle.am_diagram.specs.Drafts.{started, requirement_scope, given_scope, diagram_of}
 use Rattle.am_diagram.specs.Facts.{IsFree, NoVariable, NoVariables, HasSort, HaveSorts, WellFormed}
 use Rattle.am_diagram.specs.Faults.{head_kind, end_kind}
@@ -44,7 +44,7 @@ some-there n e = grind (arith, nat_tests)
 module _ (t : Theory) (d : Draft) where
   -- ---- variables
   abbrev sorts : List SortId
-  sorts = sorts_in (d.objects ++ d.outputs)
+  sorts = entry_sorts (d.objects ++ d.outputs)
 
   term-numbered : (u : WrittenTerm) → HasSort sorts (term_meaning (requirement_scope t d) u)
   term-numbered u n s e = let b = term-bound (requirement_scope t d) n s u e in variable-sort t d b.0 n s b.1
@@ -61,10 +61,10 @@ module _ (t : Theory) (d : Draft) where
   closed (Relation n args) = all-map NoVariable (term_meaning (given_scope t d)) args (all-each (λ u. NoVariable (term_meaning (given_scope t d) u)) term-closed args)
 
   -- ---- members of the lists
-  each-name : (P : List ℕ → Type 0) (Q : Entry → Type 0) → ((e : Entry) → Q e → P e.0) → (es : List Entry) → AllByRecursion Q es → AllByRecursion P (names_of es)
+  each-name : (P : List ℕ → Type 0) (Q : Entry → Type 0) → ((e : Entry) → Q e → P e.0) → (es : List Entry) → AllByRecursion Q es → AllByRecursion P (entry_names es)
   each-name P Q f es h = all-map P (λ (e : Entry). e.0) es (all-weaker Q (λ e. P e.0) f es h)
 
-  each-sort : (P : SortId → Type 0) (Q : Entry → Type 0) → ((e : Entry) → Q e → P e.1) → (es : List Entry) → AllByRecursion Q es → AllByRecursion P (sorts_in es)
+  each-sort : (P : SortId → Type 0) (Q : Entry → Type 0) → ((e : Entry) → Q e → P e.1) → (es : List Entry) → AllByRecursion Q es → AllByRecursion P (entry_sorts es)
   each-sort P Q f es h = all-map P (λ (e : Entry). e.1) es (all-weaker Q (λ e. P e.1) f es h)
 
   each-literal : (s : Scope) (P : Literal → Type 0) (Q : WrittenLiteral → Type 0) → ((l : WrittenLiteral) → Q l → P (literal_meaning s l)) → (ls : List WrittenLiteral) → AllByRecursion Q ls → AllByRecursion P (map (literal_meaning s) ls)
@@ -88,19 +88,19 @@ module _ (t : Theory) (d : Draft) where
     outputs_named = each-name (IsFree t) (DummySound t) (λ e h. h.free) d.outputs k.outputs;
     objects_named = each-name (λ n. IsTrue (is_name n)) (ObjectSound t) (λ e h. h.named) d.objects k.objects;
     distinct = k.distinct;
-    apart = all-append IsApart (names_of d.inputs ++ names_of d.objects) (names_of d.outputs)
-        (all-append IsApart (names_of d.inputs) (names_of d.objects)
+    apart = all-append IsApart (entry_names d.inputs ++ entry_names d.objects) (entry_names d.outputs)
+        (all-append IsApart (entry_names d.inputs) (entry_names d.objects)
         (each-name IsApart (DummySound t) (λ e h. h.apart) d.inputs k.inputs)
         (each-name IsApart (ObjectSound t) (λ e h. h.apart) d.objects k.objects))
         (each-name IsApart (DummySound t) (λ e h. h.apart) d.outputs k.outputs);
     inputs_concrete = each-sort (IsConcrete t) (DummySound t) (λ e h. h.concrete) d.inputs k.inputs;
     outputs_concrete = each-sort (IsConcrete t) (DummySound t) (λ e h. h.concrete) d.outputs k.outputs;
     objects_sorted = each-sort (IsSort t) (ObjectSound t) (λ e h. h.sorted) d.objects k.objects;
-    givens_sorted = each-literal (given_scope t d) (λ l. IsTrue (is_sorted_literal t.sig (sorts_in d.inputs) l)) (GivenSound t d)
-        (λ l h. atom-sorted (given_scope t d) t.sig (sorts_in d.inputs) (given-matches t d) l.atom h) d.givens k.givens;
+    givens_sorted = each-literal (given_scope t d) (λ l. IsTrue (is_sorted_literal t.sig (entry_sorts d.inputs) l)) (GivenSound t d)
+        (λ l h. atom-sorted (given_scope t d) t.sig (entry_sorts d.inputs) (given-matches t d) l.atom h) d.givens k.givens;
     givens_closed = each-literal (given_scope t d) (λ l. NoVariables l.atom) (GivenSound t d) (λ l h. closed l.atom) d.givens k.givens;
-    required_sorted = each-literal (requirement_scope t d) (λ l. IsTrue (is_sorted_literal t.sig (sorts_in d.inputs) l)) (RequirementSound t d)
-        (λ l h. atom-sorted (requirement_scope t d) t.sig (sorts_in d.inputs) (required-matches t d k) l.atom h) d.required k.required;
+    required_sorted = each-literal (requirement_scope t d) (λ l. IsTrue (is_sorted_literal t.sig (entry_sorts d.inputs) l)) (RequirementSound t d)
+        (λ l h. atom-sorted (requirement_scope t d) t.sig (entry_sorts d.inputs) (required-matches t d k) l.atom h) d.required k.required;
     required_numbered = each-literal (requirement_scope t d) (λ l. HaveSorts sorts l.atom) (RequirementSound t d) (λ l h. numbered l.atom) d.required k.required;
   }
 

@@ -12,7 +12,7 @@ use Rattle.am_diagram.specs.declared.draft.Draft.{Draft}
 use Rattle.am_diagram.specs.declared.fault.DiagramKind.{DiagramKind}
 use Rattle.am_diagram.specs.declared.fault.DiagramKind.TheVariants.{UnknownName, Twice, BadSort, BadArity, NotConcrete, BadFortranName, ReservedName, Unbound, Limit}
 use Rattle.am_diagram.specs.Facts.{IsFree}
-use Rattle.am_diagram.specs.Faults.{has_unknown_name, is_twice, has_bad_sort, has_bad_arity, has_unbound, is_not_concrete, has_bad_fortran_name, is_reserved, has_reserved_name, is_over_limit, first_kind, head_kind}
+use Rattle.am_diagram.specs.Faults.{has_unknown_name, is_twice, has_bad_sort, has_bad_arity, has_unbound, is_not_concrete, has_bad_fortran_name, is_reserved_in, has_reserved_name, is_over_limit, first_kind, head_kind}
 
 pub record IsFaultless (t : Theory) (d : Draft) (e : Declaration) : Type 0 where
   pub known : has_unknown_name t d e ≡ false
@@ -58,7 +58,7 @@ faultless t d e h =
     }
 
 -- a FORTRAN name that is not reserved is free
-pub free-by : (t : Theory) (n : List ℕ) → not (is_fortran_name n) ≡ false → is_reserved t n ≡ false → IsFree t n
+pub free-by : (t : Theory) (n : List ℕ) → not (is_fortran_name n) ≡ false → is_reserved_in t n ≡ false → IsFree t n
 free-by t n e f = record {
   fortran = false_not (is_fortran_name n) e;
   not_local = none_left (is_local_name n) (is_among n (fortran_names t)) f;
@@ -70,4 +70,4 @@ pub free-head : (t : Theory) (n : List ℕ) → head_kind t n ≡ None → IsFre
 unfolding head_kind
 free-head t n e =
     let e1 = then_none (not (is_fortran_name n)) BadFortranName _ e in
-    free-by t n (first_false (not (is_fortran_name n)) BadFortranName _ e) (first_false (is_reserved t n) ReservedName _ e1)
+    free-by t n (first_false (not (is_fortran_name n)) BadFortranName _ e) (first_false (is_reserved_in t n) ReservedName _ e1)

@@ -11,7 +11,7 @@ use Rattle.am_syntax.specs.declared.written.WrittenTerm.TheVariants.{Alone, Head
 use Rattle.am_syntax.specs.declared.written.WrittenAtom.{WrittenAtom}
 use Rattle.am_syntax.specs.declared.written.WrittenAtom.TheVariants.{Equation, Relation}
 use Rattle.am_syntax.specs.Induct.{written_term_induct, written_terms_induct}
-use Rattle.am_syntax.specs.Scopes.{Scope, standing_of, symbol_of, args_of}
+use Rattle.am_syntax.specs.Scopes.{Scope, standing_of, symbol_of, argument_sorts_of}
 use Rattle.am_syntax.specs.Flaws.{has_bad_sort, has_unbound, term_has, written_sort, written_sorts, some_misfit, is_relation, is_function, is_miscounted, are_apart, relation_has, equation_has}
 use Rattle.am_syntax.specs.Laws.{IsFlawlessAtom}
 use Rattle.am_syntax.proofs.Among.{none_left, none_right}
@@ -73,8 +73,8 @@ module _ (t : Theory) (bs br : List Bound) (keeps : Keeps t bs br) where
       ∙ sym (has_unknown_name-Headed s h args)
   flaws-Headed h args k BadSort =
       has_bad_sort-Headed r h args
-      ∙ ap (λ os. is_relation (symbol_of s h) || (some_misfit s.parents os (args_of (symbol_of s h)) || list_any (has_bad_sort r) args)) k.sorts
-      ∙ ap (λ b. is_relation (symbol_of s h) || (some_misfit s.parents (written_sorts s args) (args_of (symbol_of s h)) || b)) (k.flaws BadSort)
+      ∙ ap (λ os. is_relation (symbol_of s h) || (some_misfit s.parents os (argument_sorts_of (symbol_of s h)) || list_any (has_bad_sort r) args)) k.sorts
+      ∙ ap (λ b. is_relation (symbol_of s h) || (some_misfit s.parents (written_sorts s args) (argument_sorts_of (symbol_of s h)) || b)) (k.flaws BadSort)
       ∙ sym (has_bad_sort-Headed s h args)
   flaws-Headed h args k BadArity =
       has_bad_arity-Headed r h args
@@ -127,7 +127,7 @@ module _ (t : Theory) (bs br : List Bound) (keeps : Keeps t bs br) where
 
   relation-kept : (n : List ℕ) (args : List WrittenTerm) → AreSame args → (flaw : Flaw) → relation_has r flaw n args ≡ relation_has s flaw n args
   relation-kept n args k UnknownName = refl
-  relation-kept n args k BadSort = ap (λ os. is_function (symbol_of s n) || some_misfit s.parents os (args_of (symbol_of s n))) k.sorts
+  relation-kept n args k BadSort = ap (λ os. is_function (symbol_of s n) || some_misfit s.parents os (argument_sorts_of (symbol_of s n))) k.sorts
   relation-kept n args k BadArity = refl
   relation-kept n args k Unbound = refl
 

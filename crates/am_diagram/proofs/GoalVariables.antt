@@ -16,11 +16,12 @@ use Rattle.am_clause.specs.Variables.{Variable, same_variable, occurrences, occu
 use Rattle.am_clause.proofs.Members.{distinct-fewer}
 use Rattle.am_clause.proofs.Occurring.{among-occurs}
 use Rattle.am_clause.proofs.Places.{same_variable-refl, same_variable-sound}
+use Rattle.am_clause.specs.Goals.{negated}
 use Rattle.am_theory.specs.declared.theory.Theory.{Theory}
 use Rattle.am_diagram.specs.declared.diagram.Diagram.{Diagram}
-use Rattle.am_diagram.specs.Clauses.{negated, variables_from, output_terms}
+use Rattle.am_diagram.specs.Clauses.{entry_variables_from, output_terms}
 use Rattle.am_diagram.specs.Facts.{HasSort, HaveSorts, WellFormed, IsDrawn}
-use Rattle.am_diagram.specs.Listed.{sorts_in}
+use Rattle.am_diagram.specs.Listed.{entry_sorts}
 
 -- each of some sorts with its number, from n
 abbrev numbered_from : ℕ → List SortId → List Variable
@@ -74,10 +75,10 @@ module _ (sorts : List SortId) where
   of_literals (l ∷ ls) h = both (in_atom l.atom) (in_literals (map negated ls)) (of_atom l.atom h.0) (of_literals ls h.1)
 
   -- variables that are numbered from n, where the sorts from n on are theirs
-  of_variables : (n : ℕ) (es : List (List ℕ × SortId)) → ((i : ℕ) (s : SortId) → slice_get (sorts_in es) i ≡ Some s → slice_get sorts (n + i) ≡ Some s) → HasSorts sorts (occurrences_all (variables_from n es))
+  of_variables : (n : ℕ) (es : List (List ℕ × SortId)) → ((i : ℕ) (s : SortId) → slice_get (entry_sorts es) i ≡ Some s → slice_get sorts (n + i) ≡ Some s) → HasSorts sorts (occurrences_all (entry_variables_from n es))
   of_variables n [] h = subst (HasSorts sorts) (sym occurrences-none) none
-  of_variables n (e ∷ es) h = subst (HasSorts sorts) (sym (occurrences-more (var n e.1) (variables_from (n + 1) es)))
-      (both (occurrences (var n e.1)) (occurrences_all (variables_from (n + 1) es)) (subst (HasSorts sorts) (sym (occurrences-Var n e.1)) one) (of_variables (n + 1) es later))
+  of_variables n (e ∷ es) h = subst (HasSorts sorts) (sym (occurrences-more (var n e.1) (entry_variables_from (n + 1) es)))
+      (both (occurrences (var n e.1)) (occurrences_all (entry_variables_from (n + 1) es)) (subst (HasSorts sorts) (sym (occurrences-Var n e.1)) one) (of_variables (n + 1) es later))
     where
       one : HasSorts sorts ((n, e.1) ∷ [])
       one v m = by (or_cases (same_variable v (n, e.1)) (among same_variable v []) m)
@@ -86,27 +87,27 @@ module _ (sorts : List SortId) where
           by (inl a) = subst (λ (w : Variable). slice_get sorts w.0 ≡ Some w.1) (sym (same_variable-sound v (n, e.1) a)) (subst (λ k. slice_get sorts k ≡ Some e.1) (omega arith) (h 0 e.1 refl))
           by (inr b) = absurd cc
 
-      later : (i : ℕ) (s : SortId) → slice_get (sorts_in es) i ≡ Some s → slice_get sorts ((n + 1) + i) ≡ Some s
+      later : (i : ℕ) (s : SortId) → slice_get (entry_sorts es) i ≡ Some s → slice_get sorts ((n + 1) + i) ≡ Some s
       later i s k = let z : n + suc i ≡ (n + 1) + i = omega arith in subst (λ m. slice_get sorts m ≡ Some s) z (h (suc i) s k)
 
 -- the sorts of a second list stand behind those of the first
-behind : (ds es : List (List ℕ × SortId)) (i : ℕ) (s : SortId) → slice_get (sorts_in es) i ≡ Some s → slice_get (sorts_in (ds ++ es)) (length ds + i) ≡ Some s
-behind [] es i s e = let z : i ≡ 0 + i = omega arith in subst (λ k. slice_get (sorts_in es) k ≡ Some s) z e
+behind : (ds es : List (List ℕ × SortId)) (i : ℕ) (s : SortId) → slice_get (entry_sorts es) i ≡ Some s → slice_get (entry_sorts (ds ++ es)) (length ds + i) ≡ Some s
+behind [] es i s e = let z : i ≡ 0 + i = omega arith in subst (λ k. slice_get (entry_sorts es) k ≡ Some s) z e
 behind (d ∷ ds) es i s e =
     let z : suc (length ds + i) ≡ suc (length ds) + i = omega arith in
-    subst (λ k. slice_get (sorts_in (d ∷ ds ++ es)) k ≡ Some s) z (behind ds es i s e)
+    subst (λ k. slice_get (entry_sorts (d ∷ ds ++ es)) k ≡ Some s) z (behind ds es i s e)
 
 -- the variables of the requirements and of the answer are those of objects and outputs
-goal-sorts : (t : Theory) (d : Diagram) → WellFormed t d → HasSorts (sorts_in (d.objects ++ d.outputs)) (in_literals (map negated d.required) ++ occurrences_all (output_terms d))
-goal-sorts t d well = both (sorts_in (d.objects ++ d.outputs)) (in_literals (map negated d.required)) (occurrences_all (output_terms d))
-    (of_literals (sorts_in (d.objects ++ d.outputs)) d.required well.required_numbered)
-    (of_variables (sorts_in (d.objects ++ d.outputs)) (length d.objects) d.outputs (behind d.objects d.outputs))
+goal-sorts : (t : Theory) (d : Diagram) → WellFormed t d → HasSorts (entry_sorts (d.objects ++ d.outputs)) (in_literals (map negated d.required) ++ occurrences_all (output_terms d))
+goal-sorts t d well = both (entry_sorts (d.objects ++ d.outputs)) (in_literals (map negated d.required)) (occurrences_all (output_terms d))
+    (of_literals (entry_sorts (d.objects ++ d.outputs)) d.required well.required_numbered)
+    (of_variables (entry_sorts (d.objects ++ d.outputs)) (length d.objects) d.outputs (behind d.objects d.outputs))
 
 -- and so they are few
 goal-few : (d : Diagram) → IsDrawn d → length (variables (record { literals = map negated d.required; answer = Some (output_terms d) })) < 4000000000
 unfolding variables
 goal-few d is =
-    let sorts : List SortId = sorts_in (d.objects ++ d.outputs) in
+    let sorts : List SortId = entry_sorts (d.objects ++ d.outputs) in
     let all : List Variable = in_literals (map negated d.required) ++ occurrences_all (output_terms d) in
     let has : HasSorts sorts all = goal-sorts is.theory d is.well in
     let few : length (distinct same_variable all) ≤ length (numbered_from 0 sorts) = distinct-fewer same_variable same_variable-sound same_variable-refl all (numbered_from 0 sorts) (λ v m. member v (has v m)) in
@@ -116,8 +117,8 @@ goal-few d is =
     let dummies : length d.inputs + length d.outputs ≤ 18 = is.well.few_dummies in
     omega arith
   where
-    member : (v : Variable) → slice_get (sorts_in (d.objects ++ d.outputs)) v.0 ≡ Some v.1 → among same_variable v (numbered_from 0 (sorts_in (d.objects ++ d.outputs))) ≡ true
-    member v e = let z : 0 + v.0 ≡ v.0 = omega arith in subst (λ k. among same_variable (k, v.1) (numbered_from 0 (sorts_in (d.objects ++ d.outputs))) ≡ true) z (numbered-among 0 v.0 v.1 (sorts_in (d.objects ++ d.outputs)) e)
+    member : (v : Variable) → slice_get (entry_sorts (d.objects ++ d.outputs)) v.0 ≡ Some v.1 → among same_variable v (numbered_from 0 (entry_sorts (d.objects ++ d.outputs))) ≡ true
+    member v e = let z : 0 + v.0 ≡ v.0 = omega arith in subst (λ k. among same_variable (k, v.1) (numbered_from 0 (entry_sorts (d.objects ++ d.outputs))) ≡ true) z (numbered-among 0 v.0 v.1 (entry_sorts (d.objects ++ d.outputs)) e)
 
 pub few-of : (d : Diagram) (ls : List Literal) (ts : List Term) → IsDrawn d → ls ≡ map negated d.required → ts ≡ output_terms d → length (variables (record { literals = ls; answer = Some ts })) < 4000000000
 few-of d ls ts is same too = subst (λ ls. length (variables (record { literals = ls; answer = Some ts })) < 4000000000) (sym same)

@@ -15,7 +15,7 @@ use Rattle.am_syntax.proofs.Positions.{position_among, same}
 use Rattle.am_theory.specs.declared.theory.Theory.{Theory}
 use Rattle.am_theory.proofs.Appends.{distinct-insert}
 use Rattle.am_diagram.specs.declared.draft.Draft.{Draft}
-use Rattle.am_diagram.specs.Listed.{names_of}
+use Rattle.am_diagram.specs.Listed.{entry_names}
 use Rattle.am_diagram.specs.Drafts.{scope_with, requirement_scope, given_scope}
 use Rattle.am_diagram.specs.Faults.{used_names}
 use Rattle.am_diagram.proofs.FlawsMoved.{Keeps}
@@ -45,22 +45,22 @@ module _ (t : Theory) (bs br : List Bound) (x : Entry) (apart : is_among x.0 (sy
   keeps-new w u = keeps_by (bytes_eq w x.0) w refl u
 
 -- ---- which names there are
-pub names-push : (es : List Entry) (x : Entry) → names_of (es ++ x ∷ []) ≡ names_of es ++ x.0 ∷ []
+pub names-push : (es : List Entry) (x : Entry) → entry_names (es ++ x ∷ []) ≡ entry_names es ++ x.0 ∷ []
 names-push [] x = refl
 names-push (e ∷ es) x = ap (λ ns. e.0 ∷ ns) (names-push es x)
 
 -- a name that is not used is no input's, no object's and no output's
 pub record IsUnused (d : Draft) (n : List ℕ) : Type 0 where
   pub used : is_among n (used_names d) ≡ false
-  pub inputs : is_among n (names_of d.inputs) ≡ false
-  pub objects : is_among n (names_of d.objects) ≡ false
-  pub outputs : is_among n (names_of d.outputs) ≡ false
+  pub inputs : is_among n (entry_names d.inputs) ≡ false
+  pub objects : is_among n (entry_names d.objects) ≡ false
+  pub outputs : is_among n (entry_names d.outputs) ≡ false
 
 pub unused : (d : Draft) (n : List ℕ) → is_among n (used_names d) ≡ false → IsUnused d n
 unused d n e =
-    let is = names_of d.inputs in
-    let os = names_of d.objects in
-    let us = names_of d.outputs in
+    let is = entry_names d.inputs in
+    let os = entry_names d.objects in
+    let us = entry_names d.outputs in
     let all = none_right (bytes_eq n d.name) (is_among n (is ++ os ++ us)) e in
     let split : (is_among n (is ++ os) || is_among n us) ≡ false = sym (list_any-append (bytes_eq n) (is ++ os) us) ∙ all in
     let front : (is_among n is || is_among n os) ≡ false = sym (list_any-append (bytes_eq n) is os) ∙ none_left (is_among n (is ++ os)) (is_among n us) split in

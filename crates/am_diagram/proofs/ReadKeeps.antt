@@ -20,10 +20,10 @@ use Rattle.am_diagram.specs.declared.diagram.Diagram.{Diagram}
 use Rattle.am_diagram.specs.declared.draft.Draft.{Draft}
 use Rattle.am_diagram.specs.declared.fault.DiagramFault.{DiagramFault}
 use Rattle.am_diagram.specs.declared.fault.DiagramKind.{DiagramKind}
-use Rattle.am_diagram.specs.Declarations.{variable_decl, object_decl, given_decl, require_decl, decl_headed, decl_in, decl_of, head_of}
+use Rattle.am_diagram.specs.Declarations.{variable_decl, object_decl, given_decl, require_decl, decl_headed, decl_in, decl_of, diagram_name_of}
 use Rattle.am_diagram.specs.Drafts.{started, with_decl, diagram_of}
 use Rattle.am_diagram.specs.Faults.{first_kind, head_kind, end_kind}
-use Rattle.am_diagram.specs.Reading.{◌>>=◌, unless, declared_by, declared, read_from, headed_by, ended, forms_diagram, text_diagram, diagram}
+use Rattle.am_diagram.specs.Reading.{◌>>=◌, unless, declared_by, declared, read_from, draft_of_head, ended, forms_diagram, text_diagram, diagram}
 use Rattle.am_diagram.proofs.SoundDeclared.{IsNamed}
 
 abbrev some : Declaration → Option Declaration
@@ -131,14 +131,14 @@ module _ (t : Theory) (P : Draft → Type 0)
   by_head_kind size p fs d n None none q = by_last size fs d (started n) (read_from t (started n) fs) refl (start n none) q
   by_head_kind size p fs d n (Some k) none q = absurd cc
 
-  by_head : (size p : ℕ) (fs : List Form) (d : Diagram) (o : Option (List ℕ)) → then_all size fs (headed_by t p o) ≡ ok d → IsRead t P d
+  by_head : (size p : ℕ) (fs : List Form) (d : Diagram) (o : Option (List ℕ)) → then_all size fs (draft_of_head t p o) ≡ ok d → IsRead t P d
   by_head size p fs d None q = absurd cc
   by_head size p fs d (Some n) q = by_head_kind size p fs d n (head_kind t n) refl q
 
   by_forms : (size : ℕ) (fs : List Form) (d : Diagram) → forms_diagram t size fs ≡ ok d → IsRead t P d
   unfolding forms_diagram
   by_forms size [] d q = absurd cc
-  by_forms size (f ∷ fs) d q = by_head size f.place fs d (head_of f) q
+  by_forms size (f ∷ fs) d q = by_head size f.place fs d (diagram_name_of f) q
 
   by_text : (size : ℕ) (r : Result (List Form) TextFault) (d : Diagram) → text_diagram t size r ≡ ok d → IsRead t P d
   by_text size (Ok fs) d q = by_forms size fs d q

@@ -17,9 +17,9 @@ use Rattle.am_theory.proofs.SortNames.{sort-there, concrete-there}
 use Rattle.am_diagram.specs.declared.declaration.Declaration.{Declaration}
 use Rattle.am_diagram.specs.declared.declaration.Declaration.TheVariants.{Input, Object, Output, Given, Require}
 use Rattle.am_diagram.specs.declared.draft.Draft.{Draft}
-use Rattle.am_diagram.specs.Listed.{names_of}
+use Rattle.am_diagram.specs.Listed.{entry_names}
 use Rattle.am_diagram.specs.Drafts.{typed, with_decl, given_scope, requirement_scope}
-use Rattle.am_diagram.specs.Faults.{used_names, is_taken, is_reserved, has_unknown_name, is_twice, has_bad_sort, has_bad_arity, is_not_concrete, has_bad_fortran_name, has_reserved_name, has_unbound, is_over_limit}
+use Rattle.am_diagram.specs.Faults.{used_names, is_taken, is_reserved_in, has_unknown_name, is_twice, has_bad_sort, has_bad_arity, is_not_concrete, has_bad_fortran_name, has_reserved_name, has_unbound, is_over_limit}
 use Rattle.am_diagram.specs.Limits.{dummy_limit, object_limit, given_limit, requirement_limit}
 use Rattle.am_diagram.proofs.FaultlessDeclaration.{IsFaultless, free-by}
 use Rattle.am_diagram.proofs.FlawsMoved.{Keeps, atom-kept}
@@ -62,7 +62,7 @@ module _ (t : Theory) (d : Draft) (n : List ℕ) (e : is_taken t d n ≡ false) 
   no-symbol = none_right (is_among n (used_names d)) (is_among n (symbol_names t)) e
 
 -- an input or output without a fault is sound
-dummy-sound : (t : Theory) (d : Draft) (n s : List ℕ) → is_taken t d n ≡ false → is_unknown_sort (contents t) s ≡ false → is_abstract (contents t) s ≡ false → not (is_fortran_name n) ≡ false → is_reserved t n ≡ false → DummySound t (typed t n s)
+dummy-sound : (t : Theory) (d : Draft) (n s : List ℕ) → is_taken t d n ≡ false → is_unknown_sort (contents t) s ≡ false → is_abstract (contents t) s ≡ false → not (is_fortran_name n) ≡ false → is_reserved_in t n ≡ false → DummySound t (typed t n s)
 dummy-sound t d n s new known concrete named free = record {
   free = free-by t n named free;
   apart = no-symbol t d n new;
@@ -87,8 +87,8 @@ module _ (t : Theory) (d : Draft) (k : Sound t d) where
         objects = k.objects;
         outputs = k.outputs;
         distinct =
-            ap (λ ns. are_distinct (d.name ∷ (ns ++ names_of d.objects ++ names_of d.outputs))) (names-push d.inputs x)
-            ∙ distinct-first d.name n (names_of d.inputs) (names_of d.objects) (names_of d.outputs) k.distinct fresh.used;
+            ap (λ ns. are_distinct (d.name ∷ (ns ++ entry_names d.objects ++ entry_names d.outputs))) (names-push d.inputs x)
+            ∙ distinct-first d.name n (entry_names d.inputs) (entry_names d.objects) (entry_names d.outputs) k.distinct fresh.used;
         givens = givens-kept t d e (input-given t d x (no-symbol t d n f.new) fresh) d.givens k.givens;
         required = required-kept t d e (input-required t d x (no-symbol t d n f.new) fresh) d.required k.required;
       }
@@ -109,8 +109,8 @@ module _ (t : Theory) (d : Draft) (k : Sound t d) where
         objects = all-push (ObjectSound t) d.objects x k.objects (record { named = named; apart = no-symbol t d n f.new; sorted = sort-there (contents t) s f.known });
         outputs = k.outputs;
         distinct =
-            ap (λ ns. are_distinct (d.name ∷ (names_of d.inputs ++ ns ++ names_of d.outputs))) (names-push d.objects x)
-            ∙ distinct-second d.name n (names_of d.inputs) (names_of d.objects) (names_of d.outputs) k.distinct fresh.used;
+            ap (λ ns. are_distinct (d.name ∷ (entry_names d.inputs ++ ns ++ entry_names d.outputs))) (names-push d.objects x)
+            ∙ distinct-second d.name n (entry_names d.inputs) (entry_names d.objects) (entry_names d.outputs) k.distinct fresh.used;
         givens = givens-kept t d e (object-given t d x (no-symbol t d n f.new) fresh) d.givens k.givens;
         required = required-kept t d e (object-required t d x (no-symbol t d n f.new) fresh) d.required k.required;
       }
@@ -131,8 +131,8 @@ module _ (t : Theory) (d : Draft) (k : Sound t d) where
         objects = k.objects;
         outputs = all-push (DummySound t) d.outputs x k.outputs (dummy-sound t d n s f.new f.known f.concrete f.named f.free);
         distinct =
-            ap (λ ns. are_distinct (d.name ∷ (names_of d.inputs ++ names_of d.objects ++ ns))) (names-push d.outputs x)
-            ∙ distinct-third d.name n (names_of d.inputs) (names_of d.objects) (names_of d.outputs) k.distinct fresh.used;
+            ap (λ ns. are_distinct (d.name ∷ (entry_names d.inputs ++ entry_names d.objects ++ ns))) (names-push d.outputs x)
+            ∙ distinct-third d.name n (entry_names d.inputs) (entry_names d.objects) (entry_names d.outputs) k.distinct fresh.used;
         givens = givens-kept t d e (output-given t d x (no-symbol t d n f.new) fresh) d.givens k.givens;
         required = required-kept t d e (output-required t d x (no-symbol t d n f.new) fresh) d.required k.required;
       }

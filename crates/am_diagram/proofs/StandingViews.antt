@@ -12,8 +12,8 @@ use Rattle.am_syntax.specs.Flaws.{is_relation, is_lone_relation, is_miscounted, 
 use Rattle.am_syntax.proofs.Among.{none_left, none_right}
 use Rattle.am_theory.specs.declared.theory.Theory.{Theory}
 use Rattle.am_diagram.specs.declared.draft.Draft.{Draft}
-use Rattle.am_diagram.specs.Listed.{names_of}
-use Rattle.am_diagram.specs.Drafts.{inputs_from, variables_from, barred, requirement_scope, given_scope}
+use Rattle.am_diagram.specs.Listed.{entry_names}
+use Rattle.am_diagram.specs.Drafts.{inputs_from, bound_variables_from, barred, requirement_scope, given_scope}
 
 -- the sort of what a name stands for beside a symbol; no sort where it may not stand there
 abbrev pub View : Type 0
@@ -90,9 +90,9 @@ view-inputs : (w : List ℕ) (k : ℕ) (es : List Entry) → view (standing_of w
 view-inputs w k [] = refl
 view-inputs w k (e ∷ es) = look_by (bytes_eq w e.0) (Input k e.1) (standing_of w (inputs_from (k + 1) es)) (Some e.1) (look shown w es) refl (view-inputs w (k + 1) es)
 
-view-variables : (w : List ℕ) (n : ℕ) (es : List Entry) → view (standing_of w (variables_from n es)) ≡ look shown w es
+view-variables : (w : List ℕ) (n : ℕ) (es : List Entry) → view (standing_of w (bound_variables_from n es)) ≡ look shown w es
 view-variables w n [] = refl
-view-variables w n (e ∷ es) = look_by (bytes_eq w e.0) (Variable n e.1) (standing_of w (variables_from (n + 1) es)) (Some e.1) (look shown w es) refl (view-variables w (n + 1) es)
+view-variables w n (e ∷ es) = look_by (bytes_eq w e.0) (Variable n e.1) (standing_of w (bound_variables_from (n + 1) es)) (Some e.1) (look shown w es) refl (view-variables w (n + 1) es)
 
 view-barred : (w : List ℕ) (es : List Entry) → view (standing_of w (barred es)) ≡ look hidden w es
 view-barred w [] = refl
@@ -112,7 +112,7 @@ view-three w xs ys zs a b c e f h =
 
 pub view-required : (t : Theory) (d : Draft) (w : List ℕ) → view (standing_of w (requirement_scope t d).bound) ≡ stands shown w d.inputs d.objects d.outputs
 view-required t d w =
-    view-three w (inputs_from 0 d.inputs) (variables_from 0 d.objects) (variables_from (length d.objects) d.outputs) (look shown w d.inputs) (look shown w d.objects) (look shown w d.outputs)
+    view-three w (inputs_from 0 d.inputs) (bound_variables_from 0 d.objects) (bound_variables_from (length d.objects) d.outputs) (look shown w d.inputs) (look shown w d.objects) (look shown w d.outputs)
     (view-inputs w 0 d.inputs) (view-variables w 0 d.objects) (view-variables w (length d.objects) d.outputs)
 
 pub view-given : (t : Theory) (d : Draft) (w : List ℕ) → view (standing_of w (given_scope t d).bound) ≡ stands hidden w d.inputs d.objects d.outputs
@@ -125,13 +125,13 @@ pub look-push : (g : SortId → Option SortId) (w : List ℕ) (es : List Entry) 
 look-push g w [] x e = ap (λ b. if b then Some (g x.1) else None) e
 look-push g w (y ∷ es) x e = ap (λ v. if bytes_eq w y.0 then Some (g y.1) else v) (look-push g w es x e)
 
-pub look-none : (g : SortId → Option SortId) (n : List ℕ) (es : List Entry) → is_among n (names_of es) ≡ false → look g n es ≡ None
+pub look-none : (g : SortId → Option SortId) (n : List ℕ) (es : List Entry) → is_among n (entry_names es) ≡ false → look g n es ≡ None
 look-none g n [] e = refl
 look-none g n (x ∷ es) e =
-    ap (λ b. if b then Some (g x.1) else look g n es) (none_left (bytes_eq n x.0) (is_among n (names_of es)) e)
-    ∙ look-none g n es (none_right (bytes_eq n x.0) (is_among n (names_of es)) e)
+    ap (λ b. if b then Some (g x.1) else look g n es) (none_left (bytes_eq n x.0) (is_among n (entry_names es)) e)
+    ∙ look-none g n es (none_right (bytes_eq n x.0) (is_among n (entry_names es)) e)
 
-pub stands-none : (g : SortId → Option SortId) (n : List ℕ) (inputs objects outputs : List Entry) → is_among n (names_of inputs) ≡ false → is_among n (names_of objects) ≡ false → is_among n (names_of outputs) ≡ false → stands g n inputs objects outputs ≡ None
+pub stands-none : (g : SortId → Option SortId) (n : List ℕ) (inputs objects outputs : List Entry) → is_among n (entry_names inputs) ≡ false → is_among n (entry_names objects) ≡ false → is_among n (entry_names outputs) ≡ false → stands g n inputs objects outputs ≡ None
 stands-none g n inputs objects outputs e f h =
     ap (λ v. or_view (or_view v (look g n objects)) (look g n outputs)) (look-none shown n inputs e)
     ∙ ap (λ v. or_view v (look g n outputs)) (look-none g n objects f)

@@ -50,12 +50,12 @@ decl_in (h ∷ rest) = word_of h >>= λ w. decl_headed w rest
 unfoldable pub decl_of : Form → Option Declaration
 decl_of f = list_of f >>= decl_in
 
-abbrev pub head_in : List Form → Option (List ℕ)
-head_in [] = None
-head_in (h ∷ []) = None
-head_in (h ∷ name ∷ []) = word_of h >>= λ w. if bytes_eq w (codes "diagram") then word_of name else None
-head_in (h ∷ name ∷ f ∷ fs) = None
+abbrev pub diagram_name_in : List Form → Option (List ℕ)
+diagram_name_in [] = None
+diagram_name_in (h ∷ []) = None
+diagram_name_in (h ∷ name ∷ []) = word_of h >>= λ w. if bytes_eq w (codes "diagram") then word_of name else None
+diagram_name_in (h ∷ name ∷ f ∷ fs) = None
 
 -- the name in `(diagram FNAME)`
-unfoldable pub head_of : Form → Option (List ℕ)
-head_of f = list_of f >>= head_in
+unfoldable pub diagram_name_of : Form → Option (List ℕ)
+diagram_name_of f = list_of f >>= diagram_name_in

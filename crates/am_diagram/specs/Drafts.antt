@@ -35,9 +35,9 @@ inputs_from k [] = []
 inputs_from k (e ∷ es) = record { name = e.0; standing = InputStanding k e.1 } ∷ inputs_from (k + 1) es
 
 -- the variables of objects or outputs, numbered from n
-abbrev pub variables_from : ℕ → List (List ℕ × SortId) → List Bound
-variables_from n [] = []
-variables_from n (e ∷ es) = record { name = e.0; standing = Variable n e.1 } ∷ variables_from (n + 1) es
+abbrev pub bound_variables_from : ℕ → List (List ℕ × SortId) → List Bound
+bound_variables_from n [] = []
+bound_variables_from n (e ∷ es) = record { name = e.0; standing = Variable n e.1 } ∷ bound_variables_from (n + 1) es
 
 -- names that are declared and may not stand there
 abbrev pub barred : List (List ℕ × SortId) → List Bound
@@ -48,7 +48,7 @@ scope_with t bound = record { names = map (λ (y : Symbol). y.name) t.sig.symbol
 
 -- what names stand for in a requirement, beside symbols: variable n is object n, and the outputs follow the objects
 abbrev pub requirement_bound : Draft → List Bound
-requirement_bound d = inputs_from 0 d.inputs ++ variables_from 0 d.objects ++ variables_from (length d.objects) d.outputs
+requirement_bound d = inputs_from 0 d.inputs ++ bound_variables_from 0 d.objects ++ bound_variables_from (length d.objects) d.outputs
 
 abbrev pub requirement_scope : Theory → Draft → Scope
 requirement_scope t d = scope_with t (requirement_bound d)

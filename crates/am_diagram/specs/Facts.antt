@@ -15,12 +15,12 @@ use Rattle.am_theory.specs.declared.theory.Theory.{Theory}
 use Rattle.am_theory.specs.Facts.{IsSort, IsConcrete}
 use Rattle.am_theory.specs.Lookups.{fortran_names}
 use Rattle.am_diagram.specs.declared.diagram.Diagram.{Diagram}
-use Rattle.am_diagram.specs.Listed.{names_of, sorts_in}
+use Rattle.am_diagram.specs.Listed.{entry_names, entry_sorts}
 use Rattle.am_diagram.specs.Limits.{dummy_limit, object_limit, given_limit, requirement_limit}
 
 -- all names of the diagram
 abbrev pub all_names : Diagram → List (List ℕ)
-all_names d = d.name ∷ names_of d.inputs ++ names_of d.objects ++ names_of d.outputs
+all_names d = d.name ∷ entry_names d.inputs ++ entry_names d.objects ++ entry_names d.outputs
 
 -- a FORTRAN name that no unit gives to a local of its own, and none of the theory's
 pub record IsFree (t : Theory) (n : List ℕ) : Type 0 where
@@ -53,20 +53,20 @@ pub record WellFormed (t : Theory) (d : Diagram) : Type 0 where
   pub some_requirement : 1 ≤ length d.required
   -- names: of FORTRAN for the diagram, the inputs and the outputs; all differ, and none is a symbol's, but for the diagram's own
   pub named : IsFree t d.name
-  pub inputs_named : AllByRecursion (λ n. IsFree t n) (names_of d.inputs)
-  pub outputs_named : AllByRecursion (λ n. IsFree t n) (names_of d.outputs)
-  pub objects_named : AllByRecursion (λ n. IsTrue (is_name n)) (names_of d.objects)
+  pub inputs_named : AllByRecursion (λ n. IsFree t n) (entry_names d.inputs)
+  pub outputs_named : AllByRecursion (λ n. IsFree t n) (entry_names d.outputs)
+  pub objects_named : AllByRecursion (λ n. IsTrue (is_name n)) (entry_names d.objects)
   pub distinct : IsTrue (are_distinct (all_names d))
-  pub apart : AllByRecursion (λ n. is_among n (map (λ (y : Symbol). y.name) t.sig.symbols) ≡ false) (names_of d.inputs ++ names_of d.objects ++ names_of d.outputs)
+  pub apart : AllByRecursion (λ n. is_among n (map (λ (y : Symbol). y.name) t.sig.symbols) ≡ false) (entry_names d.inputs ++ entry_names d.objects ++ entry_names d.outputs)
   -- sorts
-  pub inputs_concrete : AllByRecursion (IsConcrete t) (sorts_in d.inputs)
-  pub outputs_concrete : AllByRecursion (IsConcrete t) (sorts_in d.outputs)
-  pub objects_sorted : AllByRecursion (IsSort t) (sorts_in d.objects)
+  pub inputs_concrete : AllByRecursion (IsConcrete t) (entry_sorts d.inputs)
+  pub outputs_concrete : AllByRecursion (IsConcrete t) (entry_sorts d.outputs)
+  pub objects_sorted : AllByRecursion (IsSort t) (entry_sorts d.objects)
   -- literals
-  pub givens_sorted : AllByRecursion (λ (l : Literal). IsTrue (is_sorted_literal t.sig (sorts_in d.inputs) l)) d.givens
+  pub givens_sorted : AllByRecursion (λ (l : Literal). IsTrue (is_sorted_literal t.sig (entry_sorts d.inputs) l)) d.givens
   pub givens_closed : AllByRecursion (λ (l : Literal). NoVariables l.atom) d.givens
-  pub required_sorted : AllByRecursion (λ (l : Literal). IsTrue (is_sorted_literal t.sig (sorts_in d.inputs) l)) d.required
-  pub required_numbered : AllByRecursion (λ (l : Literal). HaveSorts (sorts_in (d.objects ++ d.outputs)) l.atom) d.required
+  pub required_sorted : AllByRecursion (λ (l : Literal). IsTrue (is_sorted_literal t.sig (entry_sorts d.inputs) l)) d.required
+  pub required_numbered : AllByRecursion (λ (l : Literal). HaveSorts (entry_sorts (d.objects ++ d.outputs)) l.atom) d.required
 
 -- the diagram is well formed over some theory
 pub record IsDrawn (d : Diagram) : Type 0 where

@@ -19,7 +19,7 @@ use Rattle.am_diagram.specs.declared.draft.Draft.{Draft}
 use Rattle.am_diagram.specs.declared.fault.DiagramKind.{DiagramKind}
 use Rattle.am_diagram.specs.declared.fault.DiagramKind.TheVariants.{UnknownName, Twice, BadSort, BadArity, NotConcrete, BadFortranName, ReservedName, Unbound, Limit, NoOutput, NoRequire}
 use Rattle.am_diagram.specs.Drafts.{requirement_scope, given_scope}
-use Rattle.am_diagram.specs.Listed.{names_of}
+use Rattle.am_diagram.specs.Listed.{entry_names}
 use Rattle.am_diagram.specs.Limits.{dummy_limit, object_limit, given_limit, requirement_limit}
 
 -- a literal as a given or as a requirement has a flaw of terms and atoms
@@ -48,7 +48,7 @@ has_unknown_name t d (Require l) = requirement_has t d flaw.UnknownName l
 -- ---- Twice: an input, object or output has the name of an earlier one, of the diagram, or of a symbol of the theory
 -- the names that the diagram has so far
 abbrev pub used_names : Draft → List (List ℕ)
-used_names d = d.name ∷ names_of d.inputs ++ names_of d.objects ++ names_of d.outputs
+used_names d = d.name ∷ entry_names d.inputs ++ entry_names d.objects ++ entry_names d.outputs
 
 abbrev pub is_taken : Theory → Draft → List ℕ → Bool
 is_taken t d n = is_among n (used_names d) || is_among n (map (λ (y : Symbol). y.name) t.sig.symbols)
@@ -87,13 +87,13 @@ has_bad_fortran_name (Given l) = false
 has_bad_fortran_name (Require l) = false
 
 -- ---- ReservedName: it is `T` and five digits, or the name of a routine, value or copy routine of the theory
-abbrev pub is_reserved : Theory → List ℕ → Bool
-is_reserved t n = is_local_name n || is_among n (fortran_names t)
+abbrev pub is_reserved_in : Theory → List ℕ → Bool
+is_reserved_in t n = is_local_name n || is_among n (fortran_names t)
 
 unfoldable pub has_reserved_name : Theory → Declaration → Bool
-has_reserved_name t (Input n s) = is_reserved t n
+has_reserved_name t (Input n s) = is_reserved_in t n
 has_reserved_name t (Object n s) = false
-has_reserved_name t (Output n s) = is_reserved t n
+has_reserved_name t (Output n s) = is_reserved_in t n
 has_reserved_name t (Given l) = false
 has_reserved_name t (Require l) = false
 
@@ -123,7 +123,7 @@ first_kind t d e =
 unfoldable pub head_kind : Theory → List ℕ → Option DiagramKind
 head_kind t n =
     if not (is_fortran_name n) then Some BadFortranName
-    else if is_reserved t n then Some ReservedName
+    else if is_reserved_in t n then Some ReservedName
     else None
 
 -- the first kind that holds at the end: no output, no requirement

@@ -13,7 +13,7 @@ use Rattle.am_diagram.specs.declared.fault.DiagramKind.{DiagramKind}
 use Rattle.am_diagram.specs.declared.fault.DiagramKind.TheVariants.{Text, BadHead, NoMemory}
 use Rattle.am_diagram.specs.declared.fault.ReadError.{ReadError}
 use Rattle.am_diagram.specs.declared.fault.ReadError.TheVariants as errors
-use Rattle.am_diagram.specs.Declarations.{decl_of, head_of}
+use Rattle.am_diagram.specs.Declarations.{decl_of, diagram_name_of}
 use Rattle.am_diagram.specs.Drafts.{started, with_decl, diagram_of}
 use Rattle.am_diagram.specs.Faults.{first_kind, head_kind, end_kind}
 
@@ -44,9 +44,9 @@ unfoldable pub read_from : Theory → Draft → List Form → Result Draft Diagr
 read_from t d [] = Ok d
 read_from t d (f ∷ fs) = declared t d f >>= λ next. read_from t next fs
 
-abbrev pub headed_by : Theory → ℕ → Option (List ℕ) → Result Draft DiagramFault
-headed_by t p None = fault p BadHead
-headed_by t p (Some n) = unless p (head_kind t n) (started n)
+abbrev pub draft_of_head : Theory → ℕ → Option (List ℕ) → Result Draft DiagramFault
+draft_of_head t p None = fault p BadHead
+draft_of_head t p (Some n) = unless p (head_kind t n) (started n)
 
 -- the end, whose place is the file's length
 abbrev pub ended : Theory → ℕ → Draft → Result Diagram DiagramFault
@@ -55,7 +55,7 @@ ended t size d = unless size (end_kind d) (diagram_of t d)
 -- `(diagram FNAME)` and then declarations, among them an output and a requirement
 unfoldable pub forms_diagram : Theory → ℕ → List Form → Result Diagram DiagramFault
 forms_diagram t size [] = fault size BadHead
-forms_diagram t size (f ∷ fs) = headed_by t f.place (head_of f) >>= λ d. read_from t d fs >>= ended t size
+forms_diagram t size (f ∷ fs) = draft_of_head t f.place (diagram_name_of f) >>= λ d. read_from t d fs >>= ended t size
 
 abbrev pub text_diagram : Theory → ℕ → Result (List Form) TextFault → Result Diagram DiagramFault
 text_diagram t size (Ok fs) = forms_diagram t size fs

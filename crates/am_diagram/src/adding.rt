@@ -69,7 +69,8 @@ pub fn diagram_of(alloc: Global, tables: &Tables, draft: Draft) -> Result<Diagra
 }
 
 fn given_meanings(alloc: Global, tables: &Tables, draft: &Draft) -> Result<Items<Literal>, NoMemory>
-    ensures { IfOk result (λ ls. ls ≡ map (literal_meaning (given_scope tables.now.theory.now draft.now)) draft.now.givens) }
+    ensures { IfOk result (λ ls. ls ≡ map
+        (literal_meaning (given_scope tables.now.theory.now draft.now)) draft.now.givens) }
 {
     let bound = given_bound(alloc, draft)?;
     let scope = Scope {
@@ -85,7 +86,8 @@ fn requirement_meanings(
     tables: &Tables,
     draft: &Draft,
 ) -> Result<Items<Literal>, NoMemory>
-    ensures { IfOk result (λ ls. ls ≡ map (literal_meaning (requirement_scope tables.now.theory.now draft.now)) draft.now.required) }
+    ensures { IfOk result (λ ls. ls ≡ map
+        (literal_meaning (requirement_scope tables.now.theory.now draft.now)) draft.now.required) }
 {
     let bound = requirement_bound(alloc, draft)?;
     let scope = Scope {

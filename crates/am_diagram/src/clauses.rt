@@ -1,6 +1,7 @@
 ghost use Rattle.std.specs.Prelude.{◌≡◌, ◌+◌, ◌<◌, ◌++◌, IfOk, length, map};
+ghost use Rattle.am_clause.specs.Goals.{given_clause, negated};
 ghost use Rattle.am_diagram.specs.Facts.{IsDrawn};
-ghost use Rattle.am_diagram.specs.Clauses.{negated, variables_from, output_terms, goal, given_clause, givens};
+ghost use Rattle.am_diagram.specs.Clauses.{entry_variables_from, output_terms, goal, givens};
 
 use crate::diagram::Diagram;
 use am_clause::{Clause, renumber};
@@ -54,7 +55,7 @@ fn variables_from(
     variables: &[(Name, SortId)],
 ) -> Result<Items<Term>, NoMemory>
     requires { first + length variables.now < 4294967296 }
-    ensures { IfOk result (λ ts. ts ≡ variables_from first variables.now) }
+    ensures { IfOk result (λ ts. ts ≡ entry_variables_from first variables.now) }
 {
     let mut made = Items::new(alloc);
     let mut number = first;

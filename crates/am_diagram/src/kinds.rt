@@ -1,6 +1,6 @@
 ghost use Rattle.std.specs.Prelude.{◌≡◌, ◌+◌, IfOk, length, nat_lt};
 ghost use Rattle.am_term.specs.NameLists.{is_among};
-ghost use Rattle.am_diagram.specs.Listed.{names_of};
+ghost use Rattle.am_diagram.specs.Listed.{entry_names};
 ghost use Rattle.am_diagram.specs.Limits.{dummy_limit};
 ghost use Rattle.am_diagram.specs.Faults.{used_names, is_taken, given_has, requirement_has, literal_has, has_unknown_name, is_twice, is_not_concrete, has_bad_fortran_name, has_reserved_name, is_over_limit, first_kind, head_kind, end_kind};
 
@@ -169,7 +169,7 @@ fn is_used(draft: &Draft, name: &Name) -> bool
 }
 
 fn has_name(entries: &[(Name, SortId)], name: &Name) -> bool
-    ensures { result ≡ is_among name.now (names_of entries.now) }
+    ensures { result ≡ is_among name.now (entry_names entries.now) }
 {
     let mut rest = entries;
     while let [(other, _), behind @ ..] = rest {

@@ -8,7 +8,7 @@ ghost use Rattle.am_theory.specs.declared.theory.FortranFunction.{FortranFunctio
 ghost use Rattle.am_theory.specs.Contents.{contents, sort_number};
 ghost use Rattle.am_theory.specs.Faults.{is_unknown_sort, is_abstract};
 ghost use Rattle.am_theory.specs.Lookups.{listed_name, fortran_names};
-ghost use Rattle.am_diagram.specs.Faults.{is_reserved};
+ghost use Rattle.am_diagram.specs.Faults.{is_reserved_in};
 
 use crate::tables::Tables;
 use am_syntax::NameTable;
@@ -162,7 +162,7 @@ pub fn is_symbol_name(tables: &Tables, name: &Name) -> bool
 
 /// Whether a unit may give the name to a local of its own, or the theory calls something by it.
 pub fn is_reserved(tables: &Tables, name: &Name) -> bool
-    ensures { result ≡ is_reserved tables.now.theory.now name.now }
+    ensures { result ≡ is_reserved_in tables.now.theory.now name.now }
 {
     is_local_name(name.as_str().as_bytes()) || tables.called.contains(name)
 }

@@ -1,6 +1,6 @@
 ghost use Rattle.std.specs.Prelude.{◌≡◌};
-ghost use Rattle.am_diagram.specs.Reading.{Gives, IsAnswer, declared, read_from, headed_by, ended, forms_diagram, diagram};
-ghost use Rattle.am_diagram.specs.Declarations.{head_of};
+ghost use Rattle.am_diagram.specs.Reading.{Gives, IsAnswer, declared, read_from, draft_of_head, ended, forms_diagram, diagram};
+ghost use Rattle.am_diagram.specs.Declarations.{diagram_name_of};
 
 use crate::adding::{diagram_of, with_decl};
 use crate::diagram::Diagram;
@@ -55,7 +55,7 @@ fn read_from(
 
 /// What there is after the first form.
 fn headed(alloc: Global, tables: &Tables, form: &Form) -> Result<Draft, ReadError>
-    ensures { Gives (λ d. d) result (headed_by tables.now.theory.now form.now.place (head_of form.now)) }
+    ensures { Gives (λ d. d) result (draft_of_head tables.now.theory.now form.now.place (diagram_name_of form.now)) }
 {
     let Some(name) = head_of(form) else {
         return Err(ReadError::at(form.place, DiagramKind::BadHead));

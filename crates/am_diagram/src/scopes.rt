@@ -1,5 +1,5 @@
 ghost use Rattle.std.specs.Prelude.{◌≡◌, ◌++◌, IfOk, length};
-ghost use Rattle.am_diagram.specs.Drafts.{inputs_from, variables_from, barred, requirement_bound, given_bound};
+ghost use Rattle.am_diagram.specs.Drafts.{inputs_from, bound_variables_from, barred, requirement_bound, given_bound};
 
 use crate::draft::Draft;
 use am_syntax::{BoundTable, Standing};
@@ -27,7 +27,9 @@ fn with_objects(
     objects: &[(Name, SortId)],
     outputs: &[(Name, SortId)],
 ) -> Result<BoundTable, NoMemory>
-    ensures { IfOk result (λ bs. bs.entries ≡ bound.entries ++ variables_from 0 objects.now ++ variables_from (length objects.now) outputs.now) }
+    ensures { IfOk result (λ bs. bs.entries ≡ bound.entries ++ bound_variables_from 0 objects.now
+        ++ bound_variables_from
+        (length objects.now) outputs.now) }
 {
     let Ok(count) = u32::try_from(objects.len()) else {
         return Err(NoMemory);
@@ -69,7 +71,7 @@ fn with_variables(
     first: u32,
     variables: &[(Name, SortId)],
 ) -> Result<BoundTable, NoMemory>
-    ensures { IfOk result (λ bs. bs.entries ≡ bound.entries ++ variables_from first variables.now) }
+    ensures { IfOk result (λ bs. bs.entries ≡ bound.entries ++ bound_variables_from first variables.now) }
 {
     let mut bound = bound;
     let mut number = first;

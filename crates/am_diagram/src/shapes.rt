@@ -1,7 +1,7 @@
 ghost use Rattle.std.specs.Prelude.{◌≡◌, [], ◌∷◌, IfOk};
 ghost use Rattle.std.specs.Option.{option_copied};
 ghost use Rattle.am_diagram.specs.declared.declaration.Declaration.TheVariants.{Input, Output};
-ghost use Rattle.am_diagram.specs.Declarations.{variable_decl, object_decl, given_decl, require_decl, decl_headed, decl_of, head_of};
+ghost use Rattle.am_diagram.specs.Declarations.{variable_decl, object_decl, given_decl, require_decl, decl_headed, decl_of, diagram_name_of};
 
 use crate::declaration::Declaration;
 use am_syntax::{Words, literal_of};
@@ -113,9 +113,9 @@ fn decl_headed(alloc: Global, head: &str, rest: &[Form]) -> Result<Option<Declar
 }
 
 /// The diagram's name, if the form is the first form of a diagram file.
-#[tactic(auto, unfolding(crate::specs::Declarations::head_of))]
+#[tactic(auto, unfolding(crate::specs::Declarations::diagram_name_of))]
 pub fn head_of(form: &Form) -> Option<&Name>
-    ensures { option_copied result ≡ head_of form.now }
+    ensures { option_copied result ≡ diagram_name_of form.now }
 {
     let [head, name] = list_of(form)? else {
         return None;

@@ -10,14 +10,14 @@ use Rattle.am_theory.specs.declared.theory.FortranFunction.{FortranFunction}
 use Rattle.am_theory.specs.declared.theory.Theory.{Theory}
 use Rattle.am_theory.specs.Lookups.{rep_of, result_sort, function_named, fortran_names}
 use Rattle.am_diagram.specs.declared.diagram.Diagram.{Diagram}
-use Rattle.am_diagram.specs.Listed.{names_of}
+use Rattle.am_diagram.specs.Listed.{entry_names}
 use Rattle.am_fortran.specs.declared.statement.FortranType.{FortranType}
 use Rattle.am_fortran.specs.declared.statement.FortranType.TheVariants as fortran
 use Rattle.am_fortran.specs.declared.statement.Decl.{Decl}
 use Rattle.am_fortran.specs.declared.unit.Unit.{Unit as Subroutine}
 use Rattle.am_exec.specs.Types.{is_text_of_any_length, same_type, dummy_type, local_type, type_by}
-use Rattle.am_exec.specs.Lawful.{dummies_of, typed, typed_dummy, IsFunction, IsLocal}
-use Rattle.am_exec.specs.ItemFaults.{same_names, is_bad_head, have_one_type, declared_names, is_local, function_type, has_function_type, is_function, declares, is_bad_declaration, lacks_dummy}
+use Rattle.am_exec.specs.Lawful.{dummies_of, typed_name, typed_dummy, IsDeclaredFunction, IsLocal}
+use Rattle.am_exec.specs.ItemFaults.{same_names, is_bad_head, have_one_type, declared_names, is_local, function_type, has_function_type, is_declared_function, declares, is_bad_declaration, lacks_dummy}
 use Rattle.am_exec.specs.Terms.{bad_declaration}
 use Rattle.am_exec.proofs.Names.{is_among-append}
 use Rattle.am_exec.proofs.Held.{eq_is, eq_same, or_false-left, or_false-right, or_both}
@@ -50,12 +50,12 @@ same_names-is (m ∷ ms) (n ∷ ns) e = ap (λ x. x ∷ ms) (eq_is m n (and_left
 
 -- the head's two rules
 pub head-named : (d : Diagram) (u : Subroutine) → is_bad_head d u ≡ false → u.name ≡ d.name
-head-named d u e = eq_is u.name d.name (and_left (bytes_eq u.name d.name) (same_names u.dummies (names_of (dummies_of d))) (false_not (bytes_eq u.name d.name && same_names u.dummies (names_of (dummies_of d))) e))
+head-named d u e = eq_is u.name d.name (and_left (bytes_eq u.name d.name) (same_names u.dummies (entry_names (dummies_of d))) (false_not (bytes_eq u.name d.name && same_names u.dummies (entry_names (dummies_of d))) e))
 
-pub head-dummies : (d : Diagram) (u : Subroutine) → is_bad_head d u ≡ false → u.dummies ≡ names_of (dummies_of d)
-head-dummies d u e = same_names-is u.dummies (names_of (dummies_of d)) (and_right (bytes_eq u.name d.name) (same_names u.dummies (names_of (dummies_of d))) (false_not (bytes_eq u.name d.name && same_names u.dummies (names_of (dummies_of d))) e))
+pub head-dummies : (d : Diagram) (u : Subroutine) → is_bad_head d u ≡ false → u.dummies ≡ entry_names (dummies_of d)
+head-dummies d u e = same_names-is u.dummies (entry_names (dummies_of d)) (and_right (bytes_eq u.name d.name) (same_names u.dummies (entry_names (dummies_of d))) (false_not (bytes_eq u.name d.name && same_names u.dummies (entry_names (dummies_of d))) e))
 
-names-counted : (es : List (List ℕ × SortId)) → length (names_of es) ≡ length es
+names-counted : (es : List (List ℕ × SortId)) → length (entry_names es) ≡ length es
 names-counted [] = refl
 names-counted (e ∷ es) = ap suc (names-counted es)
 
@@ -176,13 +176,13 @@ module _ (t : Theory) (u : Subroutine) where
       let one = have_one_type (Some e.ty) (type_by dummy_type (rep_of t r.1)) in
       (eq_is e.name r.0 (and_left named one h), one_type-is (Some e.ty) (type_by dummy_type (rep_of t r.1)) (and_right named one h))
 
-  pub dummies-typed : (rs : List (List ℕ × SortId)) (es : List Decl) → FollowDummies t u rs es → length rs ≤ length es → map typed (take (length rs) es) ≡ map (typed_dummy t) rs
+  pub dummies-typed : (rs : List (List ℕ × SortId)) (es : List Decl) → FollowDummies t u rs es → length rs ≤ length es → map typed_name (take (length rs) es) ≡ map (typed_dummy t) rs
   dummies-typed [] es f l = refl
   dummies-typed (r ∷ rs) [] f l = absurd (omega arith)
   dummies-typed (r ∷ rs) (e ∷ es) f l =
       let h = dummy-typed r e f.0 in
-      ap (λ (n : List ℕ). (n, Some e.ty) ∷ map typed (take (length rs) es)) h.0
-      ∙ ap (λ (o : Option FortranType). (r.0, o) ∷ map typed (take (length rs) es)) h.1
+      ap (λ (n : List ℕ). (n, Some e.ty) ∷ map typed_name (take (length rs) es)) h.0
+      ∙ ap (λ (o : Option FortranType). (r.0, o) ∷ map typed_name (take (length rs) es)) h.1
       ∙ ap (λ xs. typed_dummy t r ∷ xs) (dummies-typed rs es f.1 (omega arith))
 
   -- the declaration of a dummy
@@ -212,29 +212,29 @@ module _ (t : Theory) (u : Subroutine) where
         sized = λ is. never_both (is_text_of_any_length e.ty) (ap is_text_of_any_length is) (true_not (is_text_of_any_length e.ty) (and_right c f cf));
       }
 
-  function-is : (e : Decl) → is_function t e ≡ true → IsFunction t e
+  function-is : (e : Decl) → is_declared_function t e ≡ true → IsDeclaredFunction t e
   function-is e h = by_function (function_named t e.name) refl h
     where
-      by_sort : (f : FortranFunction) (o : Option SortId) → function_named t e.name ≡ Some f → result_sort t.sig f.symbol ≡ o → have_one_type (Some e.ty) (function_type t o) ≡ true → IsFunction t e
+      by_sort : (f : FortranFunction) (o : Option SortId) → function_named t e.name ≡ Some f → result_sort t.sig f.symbol ≡ o → have_one_type (Some e.ty) (function_type t o) ≡ true → IsDeclaredFunction t e
       by_sort f None is at h = absurd (true≢false (sym h))
       by_sort f (Some s) is at h = record { function = f; listed = is; sort = s; result = at; typed = one_type-is (Some e.ty) (type_by local_type (rep_of t s)) h }
 
-      by_function : (o : Option FortranFunction) → function_named t e.name ≡ o → has_function_type t e.ty o ≡ true → IsFunction t e
+      by_function : (o : Option FortranFunction) → function_named t e.name ≡ o → has_function_type t e.ty o ≡ true → IsDeclaredFunction t e
       by_function None is h = absurd (true≢false (sym h))
       by_function (Some f) is h = by_sort f (result_sort t.sig f.symbol) is refl h
 
-  further-is : (e : Decl) → declares t u None e ≡ true → IsLocal t u e ⊎ IsFunction t e
-  further-is e h = by_cases (or_cases (is_local t u e) (is_function t e) h)
+  further-is : (e : Decl) → declares t u None e ≡ true → IsLocal t u e ⊎ IsDeclaredFunction t e
+  further-is e h = by_cases (or_cases (is_local t u e) (is_declared_function t e) h)
     where
-      by_cases : (is_local t u e ≡ true) ⊎ (is_function t e ≡ true) → IsLocal t u e ⊎ IsFunction t e
+      by_cases : (is_local t u e ≡ true) ⊎ (is_declared_function t e ≡ true) → IsLocal t u e ⊎ IsDeclaredFunction t e
       by_cases (inl l) = inl (local-is e l)
       by_cases (inr f) = inr (function-is e f)
 
-  all-further : (es : List Decl) → AllByRecursion (λ (e : Decl). declares t u None e ≡ true) es → AllByRecursion (λ (e : Decl). IsLocal t u e ⊎ IsFunction t e) es
+  all-further : (es : List Decl) → AllByRecursion (λ (e : Decl). declares t u None e ≡ true) es → AllByRecursion (λ (e : Decl). IsLocal t u e ⊎ IsDeclaredFunction t e) es
   all-further [] h = tt
   all-further (e ∷ es) h = (further-is e h.0, all-further es h.1)
 
-  pub behind-dummies : (rs : List (List ℕ × SortId)) (es : List Decl) → FollowDummies t u rs es → AllByRecursion (λ (e : Decl). IsLocal t u e ⊎ IsFunction t e) (drop (length rs) es)
+  pub behind-dummies : (rs : List (List ℕ × SortId)) (es : List Decl) → FollowDummies t u rs es → AllByRecursion (λ (e : Decl). IsLocal t u e ⊎ IsDeclaredFunction t e) (drop (length rs) es)
   behind-dummies [] es f = all-further es f
   behind-dummies (r ∷ rs) [] f = tt
   behind-dummies (r ∷ rs) (e ∷ es) f = behind-dummies rs es f.1

@@ -8,7 +8,7 @@ use Rattle.std.specs.Str.{bytes_eq}
 use Rattle.am_term.specs.declared.id.SortId.{SortId}
 use Rattle.am_theory.specs.declared.theory.Theory.{Theory}
 use Rattle.am_diagram.specs.declared.diagram.Diagram.{Diagram}
-use Rattle.am_diagram.specs.Listed.{names_of}
+use Rattle.am_diagram.specs.Listed.{entry_names}
 use Rattle.am_fortran.specs.declared.statement.Decl.{Decl}
 use Rattle.am_fortran.specs.declared.unit.Unit.{Unit as Subroutine}
 use Rattle.am_exec.specs.ItemFaults.{same_names, is_bad_declaration}
@@ -19,13 +19,13 @@ and_regroup true b c = refl
 and_regroup false b c = refl
 
 -- names are those of two lists together where the front is the first and the rest the second
-pub same_names-append : (ns : List (List ℕ)) (es fs : List (List ℕ × SortId)) → length es ≤ length ns → same_names ns (names_of (es ++ fs)) ≡ (same_names (take (length es) ns) (names_of es) && same_names (drop (length es) ns) (names_of fs))
+pub same_names-append : (ns : List (List ℕ)) (es fs : List (List ℕ × SortId)) → length es ≤ length ns → same_names ns (entry_names (es ++ fs)) ≡ (same_names (take (length es) ns) (entry_names es) && same_names (drop (length es) ns) (entry_names fs))
 same_names-append [] [] fs h = refl
 same_names-append [] (e ∷ es) fs h = absurd (omega arith)
 same_names-append (n ∷ ns) [] fs h = refl
-same_names-append (n ∷ ns) (e ∷ es) fs h = rw (same_names-append ns es fs (omega arith)) (and_regroup (bytes_eq n e.0) (same_names (take (length es) ns) (names_of es)) (same_names (drop (length es) ns) (names_of fs)))
+same_names-append (n ∷ ns) (e ∷ es) fs h = rw (same_names-append ns es fs (omega arith)) (and_regroup (bytes_eq n e.0) (same_names (take (length es) ns) (entry_names es)) (same_names (drop (length es) ns) (entry_names fs)))
 
-pub same_names-short : (ns : List (List ℕ)) (es fs : List (List ℕ × SortId)) → length ns < length es → same_names ns (names_of (es ++ fs)) ≡ false
+pub same_names-short : (ns : List (List ℕ)) (es fs : List (List ℕ × SortId)) → length ns < length es → same_names ns (entry_names (es ++ fs)) ≡ false
 same_names-short ns [] fs h = absurd (omega arith)
 same_names-short [] (e ∷ es) fs h = refl
 same_names-short (n ∷ ns) (e ∷ es) fs h = rw (same_names-short ns es fs (omega arith)) (and_false (bytes_eq n e.0))

@@ -6,7 +6,7 @@ use Rattle.std.specs.Str.{bytes_eq}
 use Rattle.am_term.specs.declared.term.Term.{Term}
 use Rattle.am_term.proofs.Tests.{never_both}
 use Rattle.am_exec.specs.Lawful.{listed_target}
-use Rattle.am_exec.specs.States.{Store, term_held, is_held, entries}
+use Rattle.am_exec.specs.States.{Store, term_held, is_held, entries_held}
 
 pub eq_is : (m n : List ℕ) → bytes_eq m n ≡ true → m ≡ n
 eq_is m n e = (bytes_eq-Decides m n).0 e
@@ -43,17 +43,17 @@ held-append (x ∷ xs) ys n = by_test (bytes_eq x.0 n) (held-append xs ys n)
     by_test false h = h
 
 -- a name that holds a term is none of those that hold none
-pub fresh : (store : Store) (ns : List (Option (List ℕ))) (xs : List Term) (n : List ℕ) (x : Term) → list_any (is_held store) (flat_map listed_target ns) ≡ false → term_held store n ≡ Some x → term_held (entries ns xs) n ≡ None
+pub fresh : (store : Store) (ns : List (Option (List ℕ))) (xs : List Term) (n : List ℕ) (x : Term) → list_any (is_held store) (flat_map listed_target ns) ≡ false → term_held store n ≡ Some x → term_held (entries_held ns xs) n ≡ None
 fresh store [] xs n x e h = refl
 fresh store (m ∷ ns) [] n x e h = none m
   where
-    none : (m : Option (List ℕ)) → term_held (entries (m ∷ ns) []) n ≡ None
+    none : (m : Option (List ℕ)) → term_held (entries_held (m ∷ ns) []) n ≡ None
     none None = refl
     none (Some k) = refl
 fresh store (None ∷ ns) (y ∷ xs) n x e h = fresh store ns xs n x e h
 fresh store (Some m ∷ ns) (y ∷ xs) n x e h =
     by_test (bytes_eq m n) refl (fresh store ns xs n x (or_false-right (is_held store m) (list_any (is_held store) (flat_map listed_target ns)) e) h)
   where
-    by_test : (b : Bool) → bytes_eq m n ≡ b → term_held (entries ns xs) n ≡ None → cond b (Some y) (term_held (entries ns xs) n) ≡ None
+    by_test : (b : Bool) → bytes_eq m n ≡ b → term_held (entries_held ns xs) n ≡ None → cond b (Some y) (term_held (entries_held ns xs) n) ≡ None
     by_test true is k = never_both (is_held store m) (ap is_some (ap (term_held store) (eq_is m n is) ∙ h)) (or_false-left (is_held store m) (list_any (is_held store) (flat_map listed_target ns)) e)
     by_test false is k = k

@@ -14,16 +14,16 @@ use Rattle.am_theory.specs.declared.theory.Theory.{Theory}
 use Rattle.am_theory.specs.Lookups.{rep_of, routine_named}
 use Rattle.am_theory.specs.Facts.{WellFormed}
 use Rattle.am_diagram.specs.declared.diagram.Diagram.{Diagram}
-use Rattle.am_diagram.specs.Listed.{names_of, sorts_in}
+use Rattle.am_diagram.specs.Listed.{entry_names, entry_sorts}
 use Rattle.am_fortran.specs.declared.statement.Decl.{Decl}
 use Rattle.am_fortran.specs.declared.statement.Statement.{Statement}
 use Rattle.am_fortran.specs.declared.statement.Statement.TheVariants.{Call, Assign, Apply}
 use Rattle.am_fortran.specs.declared.unit.Unit.{Unit as Subroutine}
 use Rattle.am_exec.specs.Run.{name_in}
 use Rattle.am_exec.specs.Types.{dummy_type, local_type, type_by}
-use Rattle.am_exec.specs.Lawful.{dummies_of, typed, listed_target, call_targets, targets, HasTypeOf, IsLocal, IsFunction, Lawful}
+use Rattle.am_exec.specs.Lawful.{dummies_of, typed_name, listed_target, call_targets, targets, HasTypeOf, IsLocal, IsDeclaredFunction, Lawful}
 use Rattle.am_exec.specs.Laws.{KeepsRules, RunsByTerms, IsRightByTerms}
-use Rattle.am_exec.specs.States.{Store, term_held, is_held, inputs_from, inputs_held, entries}
+use Rattle.am_exec.specs.States.{Store, term_held, is_held, inputs_held_from, inputs_held, entries_held}
 use Rattle.am_exec.specs.Effects.{set_by_call, target_names, put_terms, put_sorts, put}
 use Rattle.am_exec.specs.ItemFaults.{is_target, are_targets}
 use Rattle.am_exec.proofs.Names.{is_among-append}
@@ -61,10 +61,10 @@ held-new xs ys n e = ap is_some (held-append xs ys n) ∙ by_term (term_held xs 
 
 module _ (t : Theory) (d : Diagram) (u : Subroutine) (h : WellFormed t) where
   abbrev ins : List SortId
-  ins = sorts_in d.inputs
+  ins = entry_sorts d.inputs
 
   -- each target holds a term afterwards
-  entries-held : (ns : List (Option (List ℕ))) (ss : List (Option SortId)) (xs : List Term) (n : List ℕ) → are_targets t d u ns ss ≡ true → sorts_of t.sig ins xs ≡ ss → is_among n (flat_map listed_target ns) ≡ true → is_held (entries ns xs) n ≡ true
+  entries-held : (ns : List (Option (List ℕ))) (ss : List (Option SortId)) (xs : List Term) (n : List ℕ) → are_targets t d u ns ss ≡ true → sorts_of t.sig ins xs ≡ ss → is_among n (flat_map listed_target ns) ≡ true → is_held (entries_held ns xs) n ≡ true
   entries-held [] ss xs n e g i = absurd (true≢false (sym i))
   entries-held (m ∷ ns) [] xs n e g i = absurd (true≢false (sym e))
   entries-held (None ∷ ns) (s ∷ ss) xs n e g i = absurd (true≢false (sym e))
@@ -73,7 +73,7 @@ module _ (t : Theory) (d : Diagram) (u : Subroutine) (h : WellFormed t) where
       let rest : sorts_of t.sig ins xs ≡ ss = cc in
       by_test (bytes_eq m n) refl (λ j. entries-held ns ss xs n (and_right (is_target t d u (Some m) s) (are_targets t d u ns ss) e) rest j)
     where
-      by_test : (b : Bool) → bytes_eq m n ≡ b → (is_among n (flat_map listed_target ns) ≡ true → is_held (entries ns xs) n ≡ true) → is_some (cond b (Some x) (term_held (entries ns xs) n)) ≡ true
+      by_test : (b : Bool) → bytes_eq m n ≡ b → (is_among n (flat_map listed_target ns) ≡ true → is_held (entries_held ns xs) n ≡ true) → is_some (cond b (Some x) (term_held (entries_held ns xs) n)) ≡ true
       by_test true is later = refl
       by_test false is later = later (other (bytes_eq n m) refl i)
         where
@@ -83,7 +83,7 @@ module _ (t : Theory) (d : Diagram) (u : Subroutine) (h : WellFormed t) where
 
   target-held : (store : Store) (s : Statement) (n : List ℕ) → Passes t d u ins store s → is_among n (targets t s) ≡ true → is_held (put t d store s) n ≡ true
   target-held store s n p i =
-      held-new store (entries (target_names t s) (put_terms t d store s)) n
+      held-new store (entries_held (target_names t s) (put_terms t d store s)) n
       (entries-held (target_names t s) (put_sorts t d ins store s) (put_terms t d store s) n (right_targets t d u ins store s p) (put-sorted t h ins d u store s p) (sym (ap (is_among n) (targets-listed t s)) ∙ i))
 
   -- no name is a target twice, and none that holds a term is one
@@ -100,7 +100,7 @@ module _ (t : Theory) (d : Diagram) (u : Subroutine) (h : WellFormed t) where
         apart = λ n e. is_among-append n (targets t s) (flat_map (targets t) ss)
             ∙ or_both (is_among n (targets t s)) (is_among n (flat_map (targets t) ss))
             (fails (is_among n (targets t s)) (λ i. never_both (is_held store n) e (none-passes (is_held store) n (targets t s) (free_targets t d u ins store s p.0) i)))
-            (rest.apart n (held-stays store (entries (target_names t s) (put_terms t d store s)) n e));
+            (rest.apart n (held-stays store (entries_held (target_names t s) (put_terms t d store s)) n e));
       }
 
   module _ (ts : List Term) (p : UnitPasses t d u ts) where
@@ -114,7 +114,7 @@ module _ (t : Theory) (d : Diagram) (u : Subroutine) (h : WellFormed t) where
     enough = let e = enough-declared u (none_lacks t d u (inputs_held d.inputs) u.statements ts p.statements) in omega (arith, e, counted)
 
     behind : Behind t d u h
-    behind = subst (λ (k : ℕ). AllByRecursion (λ (e : Decl). IsLocal t u e ⊎ IsFunction t e) (drop k u.declarations)) (sym counted) (behind-dummies t u (dummies_of d) u.declarations followed)
+    behind = subst (λ (k : ℕ). AllByRecursion (λ (e : Decl). IsLocal t u e ⊎ IsDeclaredFunction t e) (drop k u.declarations)) (sym counted) (behind-dummies t u (dummies_of d) u.declarations followed)
 
     -- a dummy has the type of its sort
     dummy-has-type : (k : ℕ) (r : List ℕ × SortId) → slice_get (dummies_of d) k ≡ Some r → HasTypeOf t u r.0 r.1
@@ -122,9 +122,9 @@ module _ (t : Theory) (d : Diagram) (u : Subroutine) (h : WellFormed t) where
         let e = dummy-declared t u (dummies_of d) u.declarations k r followed enough at in
         record { decl = e.0; there = e.1; named = e.2; typed = e.3 ∙ sym (ap (λ (b : Bool). if b then type_by dummy_type (rep_of t r.1) else type_by local_type (rep_of t r.1)) (ap (is_among r.0) (head-dummies d u p.head) ∙ named-at (dummies_of d) k r at)) }
       where
-        named-at : (es : List (List ℕ × SortId)) (k : ℕ) (r : List ℕ × SortId) → slice_get es k ≡ Some r → is_among r.0 (names_of es) ≡ true
+        named-at : (es : List (List ℕ × SortId)) (k : ℕ) (r : List ℕ × SortId) → slice_get es k ≡ Some r → is_among r.0 (entry_names es) ≡ true
         named-at [] k r at = absurd cc
-        named-at (e ∷ es) zero r at = let is : e ≡ r = cc in ap (λ b. b || is_among r.0 (names_of es)) (subst (λ (x : List ℕ × SortId). bytes_eq r.0 x.0 ≡ true) (sym is) (eq_same r.0))
+        named-at (e ∷ es) zero r at = let is : e ≡ r = cc in ap (λ b. b || is_among r.0 (entry_names es)) (subst (λ (x : List ℕ × SortId). bytes_eq r.0 x.0 ≡ true) (sym is) (eq_same r.0))
         named-at (e ∷ es) (suc k) r at = subst (λ (b : Bool). (bytes_eq r.0 e.0 || b) ≡ true) (sym (named-at es k r at)) (either (bytes_eq r.0 e.0))
           where
             either : (b : Bool) → (b || true) ≡ true
@@ -137,14 +137,14 @@ module _ (t : Theory) (d : Diagram) (u : Subroutine) (h : WellFormed t) where
     get-front (x ∷ xs) ys (suc k) r at = get-front xs ys k r at
 
     -- at the start each input's name has the type of its sort
-    starting : (ds : List (List ℕ × SortId)) (k : ℕ) → ((i : ℕ) (r : List ℕ × SortId) → slice_get ds i ≡ Some r → (slice_get ins (k + i) ≡ Some r.1) × HasTypeOf t u r.0 r.1) → Typed t d u h (inputs_from k ds)
+    starting : (ds : List (List ℕ × SortId)) (k : ℕ) → ((i : ℕ) (r : List ℕ × SortId) → slice_get ds i ≡ Some r → (slice_get ins (k + i) ≡ Some r.1) × HasTypeOf t u r.0 r.1) → Typed t d u h (inputs_held_from k ds)
     starting [] k g n x is = absurd cc
     starting (r ∷ ds) k g n x is = by_test (bytes_eq r.0 n) refl (starting ds (suc k) (λ i q at. let more = g (suc i) q at in (ap (slice_get ins) (moved i) ∙ more.0, more.1)) n x) is
       where
         moved : (i : ℕ) → suc k + i ≡ k + suc i
         moved i = omega arith
 
-        by_test : (b : Bool) → bytes_eq r.0 n ≡ b → (term_held (inputs_from (suc k) ds) n ≡ Some x → TypedTerm t d u h n x) → cond b (Some (In k)) (term_held (inputs_from (suc k) ds) n) ≡ Some x → TypedTerm t d u h n x
+        by_test : (b : Bool) → bytes_eq r.0 n ≡ b → (term_held (inputs_held_from (suc k) ds) n ≡ Some x → TypedTerm t d u h n x) → cond b (Some (In k)) (term_held (inputs_held_from (suc k) ds) n) ≡ Some x → TypedTerm t d u h n x
         by_test true eq later is =
             let same : In k ≡ x = cc in
             let here = g 0 r refl in
@@ -155,7 +155,7 @@ module _ (t : Theory) (d : Diagram) (u : Subroutine) (h : WellFormed t) where
             }
         by_test false eq later is = later is
 
-    sort-at : (es : List (List ℕ × SortId)) (k : ℕ) (r : List ℕ × SortId) → slice_get es k ≡ Some r → slice_get (sorts_in es) k ≡ Some r.1
+    sort-at : (es : List (List ℕ × SortId)) (k : ℕ) (r : List ℕ × SortId) → slice_get es k ≡ Some r → slice_get (entry_sorts es) k ≡ Some r.1
     sort-at [] k r at = absurd cc
     sort-at (e ∷ es) zero r at = let is : e ≡ r = cc in ap (λ (x : List ℕ × SortId). Some x.1) is
     sort-at (e ∷ es) (suc k) r at = sort-at es k r at
@@ -167,7 +167,7 @@ module _ (t : Theory) (d : Diagram) (u : Subroutine) (h : WellFormed t) where
     unit-lawful = record {
       named = head-named d u p.head;
       dummies = head-dummies d u p.head;
-      declared = ap (λ (k : ℕ). map typed (take k u.declarations)) counted ∙ dummies-typed t u (dummies_of d) u.declarations followed enough;
+      declared = ap (λ (k : ℕ). map typed_name (take k u.declarations)) counted ∙ dummies-typed t u (dummies_of d) u.declarations followed enough;
       behind = behind;
       declared_once = declared-once t d u p.declarations;
       statements = statements-lawful t d u h behind (inputs_held d.inputs) u.statements ts inputs-typed p.statements;

@@ -6,10 +6,10 @@ use Rattle.std.specs.Str.{bytes_eq}
 use Rattle.am_term.specs.declared.term.Term.{Term}
 use Rattle.am_term.proofs.Tests.{same_tests}
 use Rattle.am_exec.specs.Places.{first_place}
-use Rattle.am_exec.specs.States.{Store, paired, term_held}
+use Rattle.am_exec.specs.States.{Store, store_of, term_held}
 use Rattle.am_exec.proofs.Held.{eq_flip}
 
-pub paired_push : (ns : List (List ℕ)) (ts : List Term) (n : List ℕ) (t : Term) → length ns ≡ length ts → paired (ns ++ n ∷ []) (ts ++ t ∷ []) ≡ paired ns ts ++ (n, t) ∷ []
+pub paired_push : (ns : List (List ℕ)) (ts : List Term) (n : List ℕ) (t : Term) → length ns ≡ length ts → store_of (ns ++ n ∷ []) (ts ++ t ∷ []) ≡ store_of ns ts ++ (n, t) ∷ []
 paired_push [] [] n t e = refl
 paired_push [] (x ∷ ts) n t e = absurd (omega arith)
 paired_push (m ∷ ns) [] n t e = absurd (omega arith)
@@ -24,14 +24,14 @@ later : (t : Term) (ts : List Term) (o : Option ℕ) → at_place (t ∷ ts) (op
 later t ts None = refl
 later t ts (Some k) = refl
 
-pub paired_held : (ns : List (List ℕ)) (ts : List Term) (n : List ℕ) → length ns ≡ length ts → term_held (paired ns ts) n ≡ at_place ts (first_place n ns)
+pub paired_held : (ns : List (List ℕ)) (ts : List Term) (n : List ℕ) → length ns ≡ length ts → term_held (store_of ns ts) n ≡ at_place ts (first_place n ns)
 paired_held [] ts n e = refl
 paired_held (m ∷ ns) [] n e = absurd (omega arith)
 paired_held (m ∷ ns) (t ∷ ts) n e =
-    ap (λ (b : Bool). cond b (Some t) (term_held (paired ns ts) n)) (same_tests (bytes_eq m n) (bytes_eq n m) (eq_flip m n) (eq_flip n m))
+    ap (λ (b : Bool). cond b (Some t) (term_held (store_of ns ts) n)) (same_tests (bytes_eq m n) (bytes_eq n m) (eq_flip m n) (eq_flip n m))
     ∙ by_test (bytes_eq n m) (paired_held ns ts n (omega arith))
   where
-    by_test : (b : Bool) → term_held (paired ns ts) n ≡ at_place ts (first_place n ns) → cond b (Some t) (term_held (paired ns ts) n) ≡ at_place (t ∷ ts) (if b then Some 0 else option_map suc (first_place n ns))
+    by_test : (b : Bool) → term_held (store_of ns ts) n ≡ at_place ts (first_place n ns) → cond b (Some t) (term_held (store_of ns ts) n) ≡ at_place (t ∷ ts) (if b then Some 0 else option_map suc (first_place n ns))
     by_test true h = refl
     by_test false h = h ∙ sym (later t ts (first_place n ns))
 

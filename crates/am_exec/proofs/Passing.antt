@@ -7,7 +7,7 @@ use Rattle.am_term.specs.NameLists.{are_distinct}
 use Rattle.am_term.proofs.Tests.{false_not}
 use Rattle.am_theory.specs.declared.theory.Theory.{Theory}
 use Rattle.am_diagram.specs.declared.diagram.Diagram.{Diagram}
-use Rattle.am_diagram.specs.Listed.{names_of, sorts_in}
+use Rattle.am_diagram.specs.Listed.{entry_names, entry_sorts}
 use Rattle.am_fortran.specs.declared.statement.Statement.{Statement}
 use Rattle.am_fortran.specs.declared.unit.Unit.{Unit as Subroutine}
 use Rattle.am_exec.specs.declared.fault.ExecKind.{ExecKind}
@@ -18,7 +18,7 @@ use Rattle.am_exec.specs.States.{Store, is_held, inputs_held}
 use Rattle.am_exec.specs.Effects.{reads, target_names, put_sorts, put}
 use Rattle.am_exec.specs.ItemFaults.{are_targets, applies_undeclared, is_unknown, has_wrong_count, first_unset, has_wrong_sort, sets_twice, is_bad_head, lacks_dummy, is_badly_declared, is_too_large, not_set_or, statement_kind}
 use Rattle.am_exec.proofs.Held.{or_false-left, or_false-right}
-use Rattle.am_exec.specs.Terms.{◌>>=◌, fault_at, bad_declaration, terms_held, outputs_at, ended, unless, stated, declared, terms}
+use Rattle.am_exec.specs.Terms.{◌>>=◌, fault_at, bad_declaration, terms_held, outputs_or_unset, at_end, unless, stated, after_declarations, terms}
 
 -- a test that isn't met, and what follows it
 record Later (b : Bool) (o : Option ExecKind) : Type 0 where
@@ -78,14 +78,14 @@ module _ (t : Theory) (d : Diagram) (u : Subroutine) (ins : List SortId) (store 
 
 -- each statement passes in the store before it, and the end does
 abbrev pub AllPass : Theory → Diagram → Subroutine → Store → List Statement → List Term → Type 0
-AllPass t d u store [] ts = (lacks_dummy u ≡ false) × (terms_held store (names_of d.outputs) ≡ Some ts)
-AllPass t d u store (s ∷ ss) ts = Passes t d u (sorts_in d.inputs) store s × AllPass t d u (put t d store s) ss ts
+AllPass t d u store [] ts = (lacks_dummy u ≡ false) × (terms_held store (entry_names d.outputs) ≡ Some ts)
+AllPass t d u store (s ∷ ss) ts = Passes t d u (entry_sorts d.inputs) store s × AllPass t d u (put t d store s) ss ts
 
 module _ (t : Theory) (d : Diagram) (u : Subroutine) where
-  end_passes : (item : ℕ) (store : Store) (ts : List Term) → ended d u item store ≡ Ok ts → AllPass t d u store [] ts
-  end_passes item store ts e = by_test (lacks_dummy u) (terms_held store (names_of d.outputs)) e
+  end_passes : (item : ℕ) (store : Store) (ts : List Term) → at_end d u item store ≡ Ok ts → AllPass t d u store [] ts
+  end_passes item store ts e = by_test (lacks_dummy u) (terms_held store (entry_names d.outputs)) e
     where
-      by_test : (b : Bool) (o : Option (List Term)) → (if b then Err (fault_at item BadDeclaration) else outputs_at item o) ≡ Ok ts → (b ≡ false) × (o ≡ Some ts)
+      by_test : (b : Bool) (o : Option (List Term)) → (if b then Err (fault_at item BadDeclaration) else outputs_or_unset item o) ≡ Ok ts → (b ≡ false) × (o ≡ Some ts)
       by_test true o e = absurd cc
       by_test false None e = absurd cc
       by_test false (Some xs) e = let is : xs ≡ ts = cc in (refl, ap Some is)
@@ -102,8 +102,8 @@ module _ (t : Theory) (d : Diagram) (u : Subroutine) where
   pub all_pass : (item : ℕ) (store : Store) (ss : List Statement) (ts : List Term) → stated t d u item store ss ≡ Ok ts → AllPass t d u store ss ts
   all_pass item store [] ts e = end_passes item store ts e
   all_pass item store (s ∷ ss) ts e =
-      let p = stepped item (statement_kind t d u (sorts_in d.inputs) store s) (put t d store s) (λ (next : Store). stated t d u (item + 1) next ss) ts e in
-      (passes t d u (sorts_in d.inputs) store s p.passed, all_pass (item + 1) (put t d store s) ss ts p.on)
+      let p = stepped item (statement_kind t d u (entry_sorts d.inputs) store s) (put t d store s) (λ (next : Store). stated t d u (item + 1) next ss) ts e in
+      (passes t d u (entry_sorts d.inputs) store s p.passed, all_pass (item + 1) (put t d store s) ss ts p.on)
 
   -- each dummy is declared where all statements pass
   pub none_lacks : (store : Store) (ss : List Statement) (ts : List Term) → AllPass t d u store ss ts → lacks_dummy u ≡ false
@@ -120,7 +120,7 @@ pub unit_passes : (t : Theory) (d : Diagram) (u : Subroutine) (ts : List Term) �
 unfolding terms
 unit_passes t d u ts e = by_tests (is_bad_head d u) (bad_declaration t d u [] u.declarations) refl refl e
   where
-    by_tests : (b : Bool) (o : Option ℕ) → is_bad_head d u ≡ b → bad_declaration t d u [] u.declarations ≡ o → (if b then Err (fault_at 1 BadDeclaration) else declared t d u o) ≡ Ok ts → UnitPasses t d u ts
+    by_tests : (b : Bool) (o : Option ℕ) → is_bad_head d u ≡ b → bad_declaration t d u [] u.declarations ≡ o → (if b then Err (fault_at 1 BadDeclaration) else after_declarations t d u o) ≡ Ok ts → UnitPasses t d u ts
     by_tests true o h g e = absurd cc
     by_tests false (Some k) h g e = absurd cc
     by_tests false None h g e = record { head = h; declarations = g; statements = all_pass t d u (length u.declarations + 2) (inputs_held d.inputs) u.statements ts e }

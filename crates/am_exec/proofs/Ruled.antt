@@ -18,20 +18,20 @@ use Rattle.am_theory.specs.declared.theory.Theory.{Theory}
 use Rattle.am_theory.specs.Lookups.{rep_of, copy_of, result_of, result_sort, argument_sorts, routine_named, function_named}
 use Rattle.am_theory.specs.Facts.{WellFormed, is_array, is_in_range, copies_when_array, is_represented}
 use Rattle.am_diagram.specs.declared.diagram.Diagram.{Diagram}
-use Rattle.am_diagram.specs.Listed.{names_of, sorts_in}
+use Rattle.am_diagram.specs.Listed.{entry_names, entry_sorts}
 use Rattle.am_fortran.specs.declared.statement.Decl.{Decl}
 use Rattle.am_fortran.specs.declared.statement.Operand.{Operand}
 use Rattle.am_fortran.specs.declared.statement.Operand.TheVariants as operand
 use Rattle.am_fortran.specs.declared.statement.Statement.{Statement}
 use Rattle.am_fortran.specs.declared.statement.Statement.TheVariants.{Call, Assign, Apply}
 use Rattle.am_fortran.specs.declared.unit.Unit.{Unit as Subroutine}
-use Rattle.am_exec.specs.Literals.{literal_at}
+use Rattle.am_exec.specs.Literals.{literal_written}
 use Rattle.am_exec.specs.Run.{name_in, output_sort}
 use Rattle.am_exec.specs.Types.{is_scalar, type_of_name}
-use Rattle.am_exec.specs.Lawful.{further, HasTypeOf, IsLocal, IsFunction, IsOperandAt, AreOperandsAt, IsTarget, IsNamedTarget, AreTargets, IsCopyCall, IsCallOf, IsLiteralAssign, IsAssign, IsApply, IsLawfulStatement}
-use Rattle.am_exec.specs.States.{Store, term_held, entries}
+use Rattle.am_exec.specs.Lawful.{further, HasTypeOf, IsLocal, IsDeclaredFunction, IsOperandAt, AreOperandsAt, IsTarget, IsNamedTarget, AreTargets, IsCopyCall, IsCallOf, IsLiteralAssign, IsAssign, IsApply, IsLawfulStatement}
+use Rattle.am_exec.specs.States.{Store, term_held, entries_held}
 use Rattle.am_exec.specs.Effects.{read_by_call, set_by_call, held_in, copied_term, literal_for, put_terms, put, term_sort, literal_sort, assigned_sort, call_sorts, applied_sort, put_sorts, target_names}
-use Rattle.am_exec.specs.ItemFaults.{call_count, fits_operand, fit_operands, fits_call, fits_assign, fits_function, is_name_of, is_copied_by, is_scalar_rep, is_scalar_sort, have_one_type, declared_names, declared_type, may_be_set, is_target, are_targets}
+use Rattle.am_exec.specs.ItemFaults.{call_count, operand_fits_place, fit_operands, fits_call, fits_assign, fits_function, is_name_of, is_copied_by, is_scalar_rep, is_scalar_sort, have_one_type, declared_names, declared_type, may_be_set, is_target, are_targets}
 use Rattle.am_exec.proofs.Held.{eq_is, or_else, held-append}
 use Rattle.am_exec.proofs.Listed.{all-at, among-names}
 use Rattle.am_exec.proofs.Passing.{Passes, right_targets, applied_declared, AllPass}
@@ -69,7 +69,7 @@ name-is n (Some m) e = ap Some (eq_is m n e)
 
 module _ (t : Theory) (d : Diagram) (u : Subroutine) (h : WellFormed t) where
   abbrev ins : List SortId
-  ins = sorts_in d.inputs
+  ins = entry_sorts d.inputs
 
   -- a term that a name holds: it has a sort, and the name has the type of that sort
   pub record TypedTerm (n : List ℕ) (x : Term) : Type 0 where
@@ -82,19 +82,19 @@ module _ (t : Theory) (d : Diagram) (u : Subroutine) (h : WellFormed t) where
 
   -- the locals and functions behind the dummies
   abbrev pub Behind : Type 0
-  Behind = AllByRecursion (λ (e : Decl). IsLocal t u e ⊎ IsFunction t e) (further u)
+  Behind = AllByRecursion (λ (e : Decl). IsLocal t u e ⊎ IsDeclaredFunction t e) (further u)
 
   module _ (behind : Behind) where
     local-there : (n : List ℕ) → is_among n (declared_names (further u)) ≡ true → is_none (function_named t n) ≡ true → (e : Decl) × Contains (further u) e × (e.name ≡ n) × IsLocal t u e
     local-there n e f =
         let c = among-names (λ (x : Decl). x.name) n (further u) e in
-        by_cases c.0 c.1 c.2 (all-at (λ (x : Decl). IsLocal t u x ⊎ IsFunction t x) (further u) c.0 behind c.1)
+        by_cases c.0 c.1 c.2 (all-at (λ (x : Decl). IsLocal t u x ⊎ IsDeclaredFunction t x) (further u) c.0 behind c.1)
       where
         some-none : (o : Option FortranFunction) (g : FortranFunction) → o ≡ Some g → is_none o ≡ true → ⊥
         some-none None g is f = absurd cc
         some-none (Some k) g is f = absurd (true≢false (sym f))
 
-        by_cases : (x : Decl) → Contains (further u) x → x.name ≡ n → IsLocal t u x ⊎ IsFunction t x → (e : Decl) × Contains (further u) e × (e.name ≡ n) × IsLocal t u e
+        by_cases : (x : Decl) → Contains (further u) x → x.name ≡ n → IsLocal t u x ⊎ IsDeclaredFunction t x → (e : Decl) × Contains (further u) e × (e.name ≡ n) × IsLocal t u e
         by_cases x c is (inl l) = (x, c, is, l)
         by_cases x c is (inr g) = absurd (some-none (function_named t n) g.function (sym (ap (function_named t) is) ∙ g.listed) f)
 
@@ -104,11 +104,11 @@ module _ (t : Theory) (d : Diagram) (u : Subroutine) (h : WellFormed t) where
         let one = have_one_type (declared_type u n) (type_of_name t u.dummies n s) in
         let there = declared-there u n (type_of_name t u.dummies n s) (and_right free one e) in
         record {
-          settable = by_cases (or_cases (is_among n (names_of d.outputs)) (is_among n (declared_names (further u)) && is_none (function_named t n)) (and_left free one e));
+          settable = by_cases (or_cases (is_among n (entry_names d.outputs)) (is_among n (declared_names (further u)) && is_none (function_named t n)) (and_left free one e));
           typed = record { decl = there.0; there = there.1; named = there.2; typed = there.3 };
         }
       where
-        by_cases : (is_among n (names_of d.outputs) ≡ true) ⊎ ((is_among n (declared_names (further u)) && is_none (function_named t n)) ≡ true) → IsTrue (is_among n (names_of d.outputs)) ⊎ ((e : Decl) × Contains (further u) e × (e.name ≡ n) × IsLocal t u e)
+        by_cases : (is_among n (entry_names d.outputs) ≡ true) ⊎ ((is_among n (declared_names (further u)) && is_none (function_named t n)) ≡ true) → IsTrue (is_among n (entry_names d.outputs)) ⊎ ((e : Decl) × Contains (further u) e × (e.name ≡ n) × IsLocal t u e)
         by_cases (inl o) = inl o
         by_cases (inr b) = inr (local-there n (and_left (is_among n (declared_names (further u))) (is_none (function_named t n)) b) (and_right (is_among n (declared_names (further u))) (is_none (function_named t n)) b))
 
@@ -134,7 +134,7 @@ module _ (t : Theory) (d : Diagram) (u : Subroutine) (h : WellFormed t) where
         (named-target (name_in o) (result_sort t.sig f) (and_left one rest e), targets-lawful fs os (and_right one rest e))
 
     -- what targets get is typed
-    entry-typed : (ns : List (Option (List ℕ))) (ss : List (Option SortId)) (xs : List Term) → are_targets t d u ns ss ≡ true → sorts_of t.sig ins xs ≡ ss → Typed (entries ns xs)
+    entry-typed : (ns : List (Option (List ℕ))) (ss : List (Option SortId)) (xs : List Term) → are_targets t d u ns ss ≡ true → sorts_of t.sig ins xs ≡ ss → Typed (entries_held ns xs)
     entry-typed [] ss xs e g n x is = absurd cc
     entry-typed (m ∷ ns) [] xs e g n x is = absurd (true≢false (sym e))
     entry-typed (None ∷ ns) (s ∷ ss) xs e g n x is = absurd (true≢false (sym e))
@@ -146,7 +146,7 @@ module _ (t : Theory) (d : Diagram) (u : Subroutine) (h : WellFormed t) where
         let others = are_targets t d u ns ss in
         by_test (λ j. entry-typed ns ss xs (and_right one others e) rest n x j) (bytes_eq m n) refl s sort (and_left one others e) is
       where
-        by_test : (term_held (entries ns xs) n ≡ Some x → TypedTerm n x) → (b : Bool) → bytes_eq m n ≡ b → (s : Option SortId) → sort_of t.sig ins y ≡ s → is_target t d u (Some m) s ≡ true → cond b (Some y) (term_held (entries ns xs) n) ≡ Some x → TypedTerm n x
+        by_test : (term_held (entries_held ns xs) n ≡ Some x → TypedTerm n x) → (b : Bool) → bytes_eq m n ≡ b → (s : Option SortId) → sort_of t.sig ins y ≡ s → is_target t d u (Some m) s ≡ true → cond b (Some y) (term_held (entries_held ns xs) n) ≡ Some x → TypedTerm n x
         by_test rest true eq None sort e is = absurd (true≢false (sym e))
         by_test rest true eq (Some s) sort e is =
             let same : y ≡ x = cc in
@@ -159,28 +159,28 @@ module _ (t : Theory) (d : Diagram) (u : Subroutine) (h : WellFormed t) where
 
     put-typed : (store : Store) (s : Statement) → Typed store → Passes t d u ins store s → Typed (put t d store s)
     put-typed store s g p n x is =
-        by_term (term_held store n) refl (sym (held-append store (entries (target_names t s) (put_terms t d store s)) n) ∙ is)
+        by_term (term_held store n) refl (sym (held-append store (entries_held (target_names t s) (put_terms t d store s)) n) ∙ is)
       where
-        by_term : (o : Option Term) → term_held store n ≡ o → or_else o (term_held (entries (target_names t s) (put_terms t d store s)) n) ≡ Some x → TypedTerm n x
+        by_term : (o : Option Term) → term_held store n ≡ o → or_else o (term_held (entries_held (target_names t s) (put_terms t d store s)) n) ≡ Some x → TypedTerm n x
         by_term (Some y) at is = g n x (at ∙ is)
         by_term None at is = entry-typed (target_names t s) (put_sorts t d ins store s) (put_terms t d store s) (right_targets t d u ins store s p) (put-sorted t h ins d u store s p) n x is
 
     -- an operand that fits its place is a literal there or a name with the type of the place's sort
-    operand-lawful : (store : Store) (g : Typed store) (s : SortId) (o : Operand) → fits_operand t ins store s o ≡ true → IsOperandAt t u s o
+    operand-lawful : (store : Store) (g : Typed store) (s : SortId) (o : Operand) → operand_fits_place t ins store s o ≡ true → IsOperandAt t u s o
     operand-lawful store g s (operand.Name n) e =
         let x = sorted-there t ins (term_held store n) s e in
         let y = g n x.0 x.1 in
         let fit : fits t.sig y.sort s ≡ true = sym (ap (λ (o : Option Term). fits_place t.sig (term_sort t ins o) s) x.1 ∙ ap (λ (o : Option SortId). fits_place t.sig o s) y.sorted) ∙ e in
         has-type-moves t u n y.sort s (fits-alike t h y.sort s fit) y.typed
-    operand-lawful store g s (operand.Int z) e = some-is (literal_at t s (operand.Int z)) e
-    operand-lawful store g s (operand.Text x) e = some-is (literal_at t s (operand.Text x)) e
+    operand-lawful store g s (operand.Int z) e = some-is (literal_written t s (operand.Int z)) e
+    operand-lawful store g s (operand.Text x) e = some-is (literal_written t s (operand.Text x)) e
 
     operands-lawful : (store : Store) (g : Typed store) (ss : List SortId) (os : List Operand) → fit_operands t ins store ss os ≡ true → AreOperandsAt t u ss os
     operands-lawful store g [] [] e = tt
     operands-lawful store g [] (o ∷ os) e = absurd (true≢false (sym e))
     operands-lawful store g (s ∷ ss) [] e = absurd (true≢false (sym e))
     operands-lawful store g (s ∷ ss) (o ∷ os) e =
-        let one = fits_operand t ins store s o in
+        let one = operand_fits_place t ins store s o in
         let rest = fit_operands t ins store ss os in
         (operand-lawful store g s o (and_left one rest e), operands-lawful store g ss os (and_right one rest e))
 
@@ -237,16 +237,16 @@ module _ (t : Theory) (d : Diagram) (u : Subroutine) (h : WellFormed t) where
     literal-lawful : (store : Store) (target : List ℕ) (o : Operand) (place : Option SortId) → output_sort d target ≡ place → is_some (literal_for t place o) ≡ true → is_target t d u (Some target) (literal_sort t (literal_for t place o)) ≡ true → IsLiteralAssign t d u target o
     literal-lawful store target o None is e f = absurd (true≢false (sym e))
     literal-lawful store target o (Some s) is e f =
-        let l = some-is (literal_at t s o) e in
+        let l = some-is (literal_written t s o) e in
         let c = literally t h s o l.0 l.1 in
         let given : result_sort t.sig l.0 ≡ Some c.sort = ap result_of c.there ∙ c.given in
-        let sorted : literal_sort t (literal_at t s o) ≡ Some c.sort = ap (literal_sort t) l.1 ∙ given in
+        let sorted : literal_sort t (literal_written t s o) ≡ Some c.sort = ap (literal_sort t) l.1 ∙ given in
         record {
           sort = s;
           output = is;
           literal = l.0;
           stands = l.1;
-          settable = target-moves target c.sort s (fits-alike t h c.sort s c.fitting) (target-at target (literal_sort t (literal_at t s o)) c.sort sorted f);
+          settable = target-moves target c.sort s (fits-alike t h c.sort s c.fitting) (target-at target (literal_sort t (literal_written t s o)) c.sort sorted f);
         }
 
     assign-lawful : (store : Store) (g : Typed store) (target : List ℕ) (from : Operand) → fits_assign t ins store (output_sort d target) from ≡ true → is_target t d u (Some target) (assigned_sort t ins store (output_sort d target) from) ≡ true → IsAssign t d u target from

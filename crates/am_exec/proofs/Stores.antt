@@ -10,9 +10,9 @@ use Rattle.am_term.specs.Weight.{nodes, nodes-App}
 use Rattle.am_theory.specs.declared.theory.Theory.{Theory}
 use Rattle.am_fortran.specs.declared.statement.Operand.{Operand}
 use Rattle.am_exec.specs.Run.{name_in}
-use Rattle.am_exec.specs.States.{Store, entry, entries, literal_term, listed_term, operand_terms}
+use Rattle.am_exec.specs.States.{Store, entry, entries_held, literal_term, listed_term, operand_terms}
 
-pub entries-none : (ns : List (Option (List ℕ))) → entries ns [] ≡ []
+pub entries-none : (ns : List (Option (List ℕ))) → entries_held ns [] ≡ []
 entries-none [] = refl
 entries-none (n ∷ ns) = refl
 
@@ -22,7 +22,7 @@ entry_at None x = []
 entry_at (Some q) x = entry (name_in q) x
 
 -- the second argument and no other is what a copy sets
-pub second_entry : (args : List Operand) (x : Term) → entries (map name_in (drop 1 args)) (x ∷ []) ≡ entry_at (slice_get args 1) x
+pub second_entry : (args : List Operand) (x : Term) → entries_held (map name_in (drop 1 args)) (x ∷ []) ≡ entry_at (slice_get args 1) x
 second_entry [] x = refl
 second_entry (p ∷ []) x = refl
 second_entry (p ∷ r ∷ rs) x = ap (λ (s : Store). entry (name_in r) x ++ s) (entries-none (map name_in rs)) ∙ nothing (entry (name_in r) x)
@@ -31,9 +31,9 @@ second_entry (p ∷ r ∷ rs) x = ap (λ (s : Store). entry (name_in r) x ++ s) 
     nothing [] = refl
     nothing (y ∷ s) = ap (λ (z : Store). y ∷ z) (nothing s)
 
-pub copy_entry : (args : List Operand) (o : Option Term) (x y : Term) (q : Operand) → Some x ≡ o → y ≡ x → Some q ≡ slice_get args 1 → entries (map name_in (drop 1 args)) (listed_term o) ≡ entry (name_in q) y
+pub copy_entry : (args : List Operand) (o : Option Term) (x y : Term) (q : Operand) → Some x ≡ o → y ≡ x → Some q ≡ slice_get args 1 → entries_held (map name_in (drop 1 args)) (listed_term o) ≡ entry (name_in q) y
 copy_entry args o x y q e f g =
-    ap (λ (p : Option Term). entries (map name_in (drop 1 args)) (listed_term p)) (sym e)
+    ap (λ (p : Option Term). entries_held (map name_in (drop 1 args)) (listed_term p)) (sym e)
     ∙ second_entry args x
     ∙ ap (λ (p : Option Operand). entry_at p x) (sym g)
     ∙ ap (entry (name_in q)) (sym f)

@@ -18,7 +18,7 @@ use Rattle.am_theory.specs.declared.theory.Routine.{Routine}
 use Rattle.am_theory.specs.declared.theory.FortranFunction.{FortranFunction}
 use Rattle.am_theory.specs.declared.theory.LiteralDecl.{LiteralDecl}
 use Rattle.am_theory.specs.declared.theory.Theory.{Theory}
-use Rattle.am_theory.specs.Lookups.{rep_of, result_of, args_of, result_sort, argument_sorts, routine_named, function_named}
+use Rattle.am_theory.specs.Lookups.{rep_of, result_of, argument_sorts_of, result_sort, argument_sorts, routine_named, function_named}
 use Rattle.am_theory.specs.Facts.{WellFormed, Stands, IsRoutine, IsLiteral}
 use Rattle.am_diagram.specs.declared.diagram.Diagram.{Diagram}
 use Rattle.am_fortran.specs.declared.statement.FortranType.{FortranType}
@@ -28,13 +28,13 @@ use Rattle.am_fortran.specs.declared.statement.Operand.TheVariants as operand
 use Rattle.am_fortran.specs.declared.statement.Statement.{Statement}
 use Rattle.am_fortran.specs.declared.statement.Statement.TheVariants.{Call, Assign, Apply}
 use Rattle.am_fortran.specs.declared.unit.Unit.{Unit as Subroutine}
-use Rattle.am_exec.specs.Literals.{writes, sort_fits, literal_at}
+use Rattle.am_exec.specs.Literals.{writes, sort_fits, literal_written}
 use Rattle.am_exec.specs.Run.{output_sort}
 use Rattle.am_exec.specs.Types.{dummy_type, local_type, type_by, type_of_name}
 use Rattle.am_exec.specs.Lawful.{HasTypeOf}
 use Rattle.am_exec.specs.States.{Store, term_held, literal_term, operand_term, listed_term, operand_terms}
 use Rattle.am_exec.specs.Effects.{read_by_call, copied_term, literal_for, literal_term_of, assigned_term, call_terms, applied_terms, put_terms, term_sort, literal_sort, assigned_sort, call_sorts, applied_sort, put_sorts}
-use Rattle.am_exec.specs.ItemFaults.{fits_operand, fit_operands, fits_call, fits_assign, fits_function, have_one_type, declared_type}
+use Rattle.am_exec.specs.ItemFaults.{operand_fits_place, fit_operands, fits_call, fits_assign, fits_function, have_one_type, declared_type}
 use Rattle.am_exec.proofs.Held.{eq_is}
 use Rattle.am_exec.proofs.Listed.{all-at, find-there}
 use Rattle.am_exec.proofs.Declared.{one_type-is}
@@ -79,7 +79,7 @@ module _ (t : Theory) (h : WellFormed t) where
   sort-fits None s place e g = absurd cc
   sort-fits (Some r) s place e g = let is : r ≡ s = cc in subst (λ (x : SortId). fits t.sig x place ≡ true) is g
 
-  pub literally : (place : SortId) (o : Operand) (f : SymId) → literal_at t place o ≡ Some f → Literally f place
+  pub literally : (place : SortId) (o : Operand) (f : SymId) → literal_written t place o ≡ Some f → Literally f place
   literally place o f e = by_literal (find (λ (l : LiteralDecl). writes o l.value && sort_fits t (result_sort t.sig l.symbol) place) t.literals) refl e
     where
       found : (l : LiteralDecl) → find (λ (x : LiteralDecl). writes o x.value && sort_fits t (result_sort t.sig x.symbol) place) t.literals ≡ Some l → Literally l.symbol place
@@ -104,27 +104,27 @@ module _ (t : Theory) (h : WellFormed t) where
     at_places : (y : Symbol) (ss : List (Option SortId)) → fit_places t.sig ss y.args ≡ true → result_at t.sig (Some y) ss ≡ y.result
     at_places y ss e = ap (λ (b : Bool). if b then y.result else None) e
 
-    pub literal-sorted : (place : SortId) (o : Operand) (f : SymId) → literal_at t place o ≡ Some f → sort_of t.sig ins (literal_term f) ≡ result_sort t.sig f
+    pub literal-sorted : (place : SortId) (o : Operand) (f : SymId) → literal_written t place o ≡ Some f → sort_of t.sig ins (literal_term f) ≡ result_sort t.sig f
     literal-sorted place o f e =
         let l = literally place o f e in
         sort_of-App t.sig ins f [] ∙ ap (λ (y : Option Symbol). result_at t.sig y []) l.there
         ∙ at_places l.symbol [] (ap (fit_places t.sig []) l.none)
         ∙ sym (ap result_of l.there)
 
-    literal-fits : (place : SortId) (o : Operand) (f : SymId) → literal_at t place o ≡ Some f → fits_place t.sig (sort_of t.sig ins (literal_term f)) place ≡ true
+    literal-fits : (place : SortId) (o : Operand) (f : SymId) → literal_written t place o ≡ Some f → fits_place t.sig (sort_of t.sig ins (literal_term f)) place ≡ true
     literal-fits place o f e =
         let l = literally place o f e in
         ap (λ (s : Option SortId). fits_place t.sig s place) (literal-sorted place o f e ∙ ap result_of l.there ∙ l.given) ∙ l.fitting
 
-    literal-operand : (store : Store) (place : SortId) (o : Operand) (q : Option SymId) (x : Term) → literal_at t place o ≡ q → option_map literal_term q ≡ Some x → fits_place t.sig (sort_of t.sig ins x) place ≡ true
+    literal-operand : (store : Store) (place : SortId) (o : Operand) (q : Option SymId) (x : Term) → literal_written t place o ≡ q → option_map literal_term q ≡ Some x → fits_place t.sig (sort_of t.sig ins x) place ≡ true
     literal-operand store place o None x is e = absurd cc
     literal-operand store place o (Some f) x is e = let same : literal_term f ≡ x = cc in subst (λ (y : Term). fits_place t.sig (sort_of t.sig ins y) place ≡ true) same (literal-fits place o f is)
 
     -- the term of an operand that fits its place has a sort that does
-    operand-fits : (store : Store) (place : SortId) (o : Operand) (x : Term) → fits_operand t ins store place o ≡ true → operand_term t store place o ≡ Some x → fits_place t.sig (sort_of t.sig ins x) place ≡ true
+    operand-fits : (store : Store) (place : SortId) (o : Operand) (x : Term) → operand_fits_place t ins store place o ≡ true → operand_term t store place o ≡ Some x → fits_place t.sig (sort_of t.sig ins x) place ≡ true
     operand-fits store place (operand.Name n) x e is = sym (ap (λ (y : Option Term). fits_place t.sig (term_sort t ins y) place) is) ∙ e
-    operand-fits store place (operand.Int z) x e is = literal-operand store place (operand.Int z) (literal_at t place (operand.Int z)) x refl is
-    operand-fits store place (operand.Text y) x e is = literal-operand store place (operand.Text y) (literal_at t place (operand.Text y)) x refl is
+    operand-fits store place (operand.Int z) x e is = literal-operand store place (operand.Int z) (literal_written t place (operand.Int z)) x refl is
+    operand-fits store place (operand.Text y) x e is = literal-operand store place (operand.Text y) (literal_written t place (operand.Text y)) x refl is
 
     joined : (p : Option Term) (x : Term) (s : SortId) (ss : List SortId) (xs : List Term) → p ≡ Some x → fits_place t.sig (sort_of t.sig ins x) s ≡ true → fit_places t.sig (sorts_of t.sig ins xs) ss ≡ true → fit_places t.sig (sorts_of t.sig ins (listed_term p ++ xs)) (s ∷ ss) ≡ true
     joined None x s ss xs e f g = absurd cc
@@ -137,9 +137,9 @@ module _ (t : Theory) (h : WellFormed t) where
     operands-fit store [] (o ∷ os) e = absurd (true≢false (sym e))
     operands-fit store (s ∷ ss) [] e = absurd (true≢false (sym e))
     operands-fit store (s ∷ ss) (o ∷ os) e =
-        let one = and_left (fits_operand t ins store s o) (fit_operands t ins store ss os) e in
+        let one = and_left (operand_fits_place t ins store s o) (fit_operands t ins store ss os) e in
         let x = operand-there t ins store s o one in
-        joined (operand_term t store s o) x.0 s ss (operand_terms t store ss os) x.1 (operand-fits store s o x.0 one x.1) (operands-fit store ss os (and_right (fits_operand t ins store s o) (fit_operands t ins store ss os) e))
+        joined (operand_term t store s o) x.0 s ss (operand_terms t store ss os) x.1 (operand-fits store s o x.0 one x.1) (operands-fit store ss os (and_right (operand_fits_place t ins store s o) (fit_operands t ins store ss os) e))
 
     -- a routine's outputs at arguments that fit its inputs
     outputs-sorted : (ss : List SortId) (xs : List Term) (fs : List SymId) → AllByRecursion (λ f. Stands t f kind.Output ss) fs → fit_places t.sig (sorts_of t.sig ins xs) ss ≡ true → sorts_of t.sig ins (map (λ (f : SymId). App f xs) fs) ≡ map (result_sort t.sig) fs
@@ -155,7 +155,7 @@ module _ (t : Theory) (h : WellFormed t) where
     function-sorted : (f : SymId) (xs : List Term) → fit_places t.sig (sorts_of t.sig ins xs) (argument_sorts t.sig f) ≡ true → sort_of t.sig ins (App f xs) ≡ result_sort t.sig f
     function-sorted f xs e = sort_of-App t.sig ins f xs ∙ by_symbol (slice_get t.sig.symbols f.0) e
       where
-        by_symbol : (o : Option Symbol) → fit_places t.sig (sorts_of t.sig ins xs) (args_of o) ≡ true → result_at t.sig o (sorts_of t.sig ins xs) ≡ result_of o
+        by_symbol : (o : Option Symbol) → fit_places t.sig (sorts_of t.sig ins xs) (argument_sorts_of o) ≡ true → result_at t.sig o (sorts_of t.sig ins xs) ≡ result_of o
         by_symbol None e = refl
         by_symbol (Some y) e = at_places y (sorts_of t.sig ins xs) e
 

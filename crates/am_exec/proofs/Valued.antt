@@ -16,34 +16,34 @@ use Rattle.am_theory.specs.declared.theory.FortranFunction.{FortranFunction}
 use Rattle.am_theory.specs.declared.theory.Theory.{Theory}
 use Rattle.am_theory.specs.Lookups.{routine_named, function_named, result_sort, argument_sorts}
 use Rattle.am_diagram.specs.declared.diagram.Diagram.{Diagram}
-use Rattle.am_diagram.specs.Listed.{names_of, sorts_in}
+use Rattle.am_diagram.specs.Listed.{entry_names, entry_sorts}
 use Rattle.am_fortran.specs.declared.statement.Operand.{Operand}
 use Rattle.am_fortran.specs.declared.statement.Operand.TheVariants as operand
 use Rattle.am_fortran.specs.declared.statement.Statement.{Statement}
 use Rattle.am_fortran.specs.declared.statement.Statement.TheVariants.{Call, Assign, Apply}
 use Rattle.am_fortran.specs.declared.unit.Unit.{Unit as Subroutine}
-use Rattle.am_exec.specs.Literals.{literal_at}
-use Rattle.am_exec.specs.Run.{State, held, started, constant, operand_value, with_value, operand_values, name_in, stored, outputs_stored, copied, held_by, is_copy, routine_called, applied, output_sort, assigned_value, executed, executed_all}
+use Rattle.am_exec.specs.Literals.{literal_written}
+use Rattle.am_exec.specs.Run.{NumberStore, number_held, handed_in, constant, operand_value, with_value, operand_values, name_in, stored, outputs_stored, copied, held_by, is_copy, routine_called, function_applied, output_sort, assigned_value, executed, executed_all}
 use Rattle.am_exec.specs.Lawful.{listed_target, call_targets, targets}
-use Rattle.am_exec.specs.States.{Store, term_held, is_held, inputs_from, inputs_held, entries, literal_term, operand_term, listed_term, operand_terms}
+use Rattle.am_exec.specs.States.{Store, term_held, is_held, inputs_held_from, inputs_held, entries_held, literal_term, operand_term, listed_term, operand_terms}
 use Rattle.am_exec.specs.Effects.{read_by_call, set_by_call, held_in, copied_term, literal_for, literal_term_of, assigned_term, call_terms, applied_terms, put, term_sort, call_sorts}
-use Rattle.am_exec.specs.ItemFaults.{is_unknown_call, call_count, is_copied_by, is_scalar_sort, fits_operand, fit_operands, fits_call, fits_assign, fits_function, is_target, are_targets}
-use Rattle.am_exec.specs.Terms.{terms_held, with_term}
+use Rattle.am_exec.specs.ItemFaults.{is_unknown_call, call_count, is_copied_by, is_scalar_sort, operand_fits_place, fit_operands, fits_call, fits_assign, fits_function, is_target, are_targets}
+use Rattle.am_exec.specs.Terms.{terms_held, with_held_term}
 use Rattle.am_exec.proofs.Held.{or_else, or_false-left, or_both, held-append, fresh}
 use Rattle.am_exec.proofs.Passing.{Passes, free_targets, right_targets, AllPass, UnitPasses}
 
 -- numbers under names in turn, as terms are put
-abbrev number_entries : List (Option (List ℕ)) → List ℕ → State
+abbrev number_entries : List (Option (List ℕ)) → List ℕ → NumberStore
 number_entries [] vs = []
 number_entries (n ∷ ns) [] = []
 number_entries (None ∷ ns) (v ∷ vs) = number_entries ns vs
 number_entries (Some n ∷ ns) (v ∷ vs) = (n, v) ∷ number_entries ns vs
 
-numbers-append : (xs ys : State) (n : List ℕ) → held (xs ++ ys) n ≡ or_else (held xs n) (held ys n)
+numbers-append : (xs ys : NumberStore) (n : List ℕ) → number_held (xs ++ ys) n ≡ or_else (number_held xs n) (number_held ys n)
 numbers-append [] ys n = refl
 numbers-append (x ∷ xs) ys n = by_test (bytes_eq x.0 n) (numbers-append xs ys n)
   where
-    by_test : (b : Bool) → held (xs ++ ys) n ≡ or_else (held xs n) (held ys n) → cond b (Some x.1) (held (xs ++ ys) n) ≡ or_else (cond b (Some x.1) (held xs n)) (held ys n)
+    by_test : (b : Bool) → number_held (xs ++ ys) n ≡ or_else (number_held xs n) (number_held ys n) → cond b (Some x.1) (number_held (xs ++ ys) n) ≡ or_else (cond b (Some x.1) (number_held xs n)) (number_held ys n)
     by_test true h = refl
     by_test false h = h
 
@@ -79,10 +79,10 @@ literal-there-of None e = absurd (true≢false (sym e))
 literal-there-of (Some f) e = (literal_term f, refl)
 
 -- an operand that fits its place stands for a term
-pub operand-there : (t : Theory) (sorts : List SortId) (store : Store) (s : SortId) (o : Operand) → fits_operand t sorts store s o ≡ true → (x : Term) × (operand_term t store s o ≡ Some x)
+pub operand-there : (t : Theory) (sorts : List SortId) (store : Store) (s : SortId) (o : Operand) → operand_fits_place t sorts store s o ≡ true → (x : Term) × (operand_term t store s o ≡ Some x)
 operand-there t sorts store s (operand.Name n) e = sorted-there t sorts (term_held store n) s e
-operand-there t sorts store s (operand.Int z) e = literal-there (literal_at t s (operand.Int z)) e
-operand-there t sorts store s (operand.Text x) e = literal-there (literal_at t s (operand.Text x)) e
+operand-there t sorts store s (operand.Int z) e = literal-there (literal_written t s (operand.Int z)) e
+operand-there t sorts store s (operand.Text x) e = literal-there (literal_written t s (operand.Text x)) e
 
 pub assigned-there : (t : Theory) (sorts : List SortId) (store : Store) (place : Option SortId) (o : Operand) → fits_assign t sorts store place o ≡ true → (x : Term) × (assigned_term t store place o ≡ Some x)
 assigned-there t sorts store place (operand.Name n) e = scalar-there t sorts (term_held store n) e
@@ -91,17 +91,17 @@ assigned-there t sorts store place (operand.Text x) e = literal-there-of (litera
 
 module _ (w : Interpretation) (ins : List ℕ) (a : Assignment) where
   -- each name holds the value of the term that it holds, and nothing where it holds none
-  abbrev pub Agree : Store → State → Type 0
-  Agree store state = (n : List ℕ) → held state n ≡ option_map (value w ins a) (term_held store n)
+  abbrev pub Agree : Store → NumberStore → Type 0
+  Agree store state = (n : List ℕ) → number_held state n ≡ option_map (value w ins a) (term_held store n)
 
-  entries-valued : (ns : List (Option (List ℕ))) (xs : List Term) (n : List ℕ) → held (number_entries ns (values w ins a xs)) n ≡ option_map (value w ins a) (term_held (entries ns xs) n)
+  entries-valued : (ns : List (Option (List ℕ))) (xs : List Term) (n : List ℕ) → number_held (number_entries ns (values w ins a xs)) n ≡ option_map (value w ins a) (term_held (entries_held ns xs) n)
   entries-valued [] xs n = refl
   entries-valued (None ∷ ns) [] n = refl
   entries-valued (Some m ∷ ns) [] n = refl
   entries-valued (None ∷ ns) (x ∷ xs) n = entries-valued ns xs n
   entries-valued (Some m ∷ ns) (x ∷ xs) n = by_test (bytes_eq m n) (entries-valued ns xs n)
     where
-      by_test : (b : Bool) → held (number_entries ns (values w ins a xs)) n ≡ option_map (value w ins a) (term_held (entries ns xs) n) → cond b (Some (value w ins a x)) (held (number_entries ns (values w ins a xs)) n) ≡ option_map (value w ins a) (cond b (Some x) (term_held (entries ns xs) n))
+      by_test : (b : Bool) → number_held (number_entries ns (values w ins a xs)) n ≡ option_map (value w ins a) (term_held (entries_held ns xs) n) → cond b (Some (value w ins a x)) (number_held (number_entries ns (values w ins a xs)) n) ≡ option_map (value w ins a) (cond b (Some x) (term_held (entries_held ns xs) n))
       by_test true h = refl
       by_test false h = h
 
@@ -112,16 +112,16 @@ module _ (w : Interpretation) (ins : List ℕ) (a : Assignment) where
   either-first (Some x) None h = refl
   either-first (Some x) (Some y) h = let is = h x refl in absurd cc
 
-  agree-put : (store : Store) (state : State) (ns : List (Option (List ℕ))) (xs : List Term) → Agree store state → list_any (is_held store) (flat_map listed_target ns) ≡ false → Agree (store ++ entries ns xs) (number_entries ns (values w ins a xs) ++ state)
+  agree-put : (store : Store) (state : NumberStore) (ns : List (Option (List ℕ))) (xs : List Term) → Agree store state → list_any (is_held store) (flat_map listed_target ns) ≡ false → Agree (store ++ entries_held ns xs) (number_entries ns (values w ins a xs) ++ state)
   agree-put store state ns xs h e n =
       numbers-append (number_entries ns (values w ins a xs)) state n
-      ∙ ap (λ o. or_else o (held state n)) (entries-valued ns xs n)
-      ∙ ap (λ o. or_else (option_map (value w ins a) (term_held (entries ns xs) n)) o) (h n)
-      ∙ either-first (term_held store n) (term_held (entries ns xs) n) (λ x is. fresh store ns xs n x e is)
-      ∙ sym (ap (option_map (value w ins a)) (held-append store (entries ns xs) n))
+      ∙ ap (λ o. or_else o (number_held state n)) (entries-valued ns xs n)
+      ∙ ap (λ o. or_else (option_map (value w ins a) (term_held (entries_held ns xs) n)) o) (h n)
+      ∙ either-first (term_held store n) (term_held (entries_held ns xs) n) (λ x is. fresh store ns xs n x e is)
+      ∙ sym (ap (option_map (value w ins a)) (held-append store (entries_held ns xs) n))
 
   -- at the start
-  starting : (ds : List (List ℕ × SortId)) (k : ℕ) (ns : List ℕ) → Members w (sorts_in ds) ns → ((i : ℕ) → slice_index ins (k + i) ≡ slice_index ns i) → Agree (inputs_from k ds) (started ds ns)
+  starting : (ds : List (List ℕ × SortId)) (k : ℕ) (ns : List ℕ) → Members w (entry_sorts ds) ns → ((i : ℕ) → slice_index ins (k + i) ≡ slice_index ns i) → Agree (inputs_held_from k ds) (handed_in ds ns)
   starting [] k ns m h n = refl
   starting (d ∷ ds) k [] m h n = absurd m
   starting (d ∷ ds) k (v ∷ ns) m h n = by_test (bytes_eq d.0 n) (starting ds (suc k) ns m.1 (λ i. ap (slice_index ins) (moved i) ∙ h (suc i)) n)
@@ -129,7 +129,7 @@ module _ (w : Interpretation) (ins : List ℕ) (a : Assignment) where
       moved : (i : ℕ) → suc k + i ≡ k + suc i
       moved i = omega arith
 
-      by_test : (b : Bool) → held (started ds ns) n ≡ option_map (value w ins a) (term_held (inputs_from (suc k) ds) n) → cond b (Some v) (held (started ds ns) n) ≡ option_map (value w ins a) (cond b (Some (In k)) (term_held (inputs_from (suc k) ds) n))
+      by_test : (b : Bool) → number_held (handed_in ds ns) n ≡ option_map (value w ins a) (term_held (inputs_held_from (suc k) ds) n) → cond b (Some v) (number_held (handed_in ds ns) n) ≡ option_map (value w ins a) (cond b (Some (In k)) (term_held (inputs_held_from (suc k) ds) n))
       by_test true g = ap Some (sym (value-In w ins a k ∙ ap (slice_index ins) (omega arith) ∙ h 0))
       by_test false g = g
 
@@ -146,18 +146,18 @@ module _ (w : Interpretation) (ins : List ℕ) (a : Assignment) where
   apps-valued xs [] = refl
   apps-valued xs (f ∷ fs) = ap (λ v. v ∷ values w ins a (map (λ (g : SymId). App g xs) fs)) (value-App w ins a f xs) ∙ ap (λ vs. w.fun f (values w ins a xs) ∷ vs) (apps-valued xs fs)
 
-  module _ (t : Theory) (d : Diagram) (u : Subroutine) (sorts : List SortId) (store : Store) (state : State) (agree : Agree store state) where
+  module _ (t : Theory) (d : Diagram) (u : Subroutine) (sorts : List SortId) (store : Store) (state : NumberStore) (agree : Agree store state) where
     operand-valued : (s : SortId) (o : Operand) → operand_value w t state s o ≡ option_map (value w ins a) (operand_term t store s o)
     operand-valued s (operand.Name n) = agree n
-    operand-valued s (operand.Int z) = literal-valued (literal_at t s (operand.Int z))
-    operand-valued s (operand.Text x) = literal-valued (literal_at t s (operand.Text x))
+    operand-valued s (operand.Int z) = literal-valued (literal_written t s (operand.Int z))
+    operand-valued s (operand.Text x) = literal-valued (literal_written t s (operand.Text x))
 
     assigned-valued : (place : Option SortId) (o : Operand) → assigned_value w t place o state ≡ option_map (value w ins a) (assigned_term t store place o)
     assigned-valued place (operand.Name n) = agree n
     assigned-valued None (operand.Int z) = refl
-    assigned-valued (Some s) (operand.Int z) = literal-valued-of (literal_at t s (operand.Int z))
+    assigned-valued (Some s) (operand.Int z) = literal-valued-of (literal_written t s (operand.Int z))
     assigned-valued None (operand.Text x) = refl
-    assigned-valued (Some s) (operand.Text x) = literal-valued-of (literal_at t s (operand.Text x))
+    assigned-valued (Some s) (operand.Text x) = literal-valued-of (literal_written t s (operand.Text x))
 
     joined : (p : Option Term) (x : Term) (v : Option ℕ) (vs : Option (List ℕ)) (xs : List Term) → p ≡ Some x → v ≡ option_map (value w ins a) p → vs ≡ Some (values w ins a xs) → with_value v vs ≡ Some (values w ins a (listed_term p ++ xs))
     joined None x v vs xs e f g = absurd cc
@@ -168,10 +168,10 @@ module _ (w : Interpretation) (ins : List ℕ) (a : Assignment) where
     operands-valued [] (o ∷ os) e = absurd (true≢false (sym e))
     operands-valued (s ∷ ss) [] e = absurd (true≢false (sym e))
     operands-valued (s ∷ ss) (o ∷ os) e =
-        let x = operand-there t sorts store s o (and_left (fits_operand t sorts store s o) (fit_operands t sorts store ss os) e) in
-        joined (operand_term t store s o) x.0 (operand_value w t state s o) (operand_values w t state ss os) (operand_terms t store ss os) x.1 (operand-valued s o) (operands-valued ss os (and_right (fits_operand t sorts store s o) (fit_operands t sorts store ss os) e))
+        let x = operand-there t sorts store s o (and_left (operand_fits_place t sorts store s o) (fit_operands t sorts store ss os) e) in
+        joined (operand_term t store s o) x.0 (operand_value w t state s o) (operand_values w t state ss os) (operand_terms t store ss os) x.1 (operand-valued s o) (operands-valued ss os (and_right (operand_fits_place t sorts store s o) (fit_operands t sorts store ss os) e))
 
-    put-one : (p : Option (List ℕ)) (m : List ℕ) (v : ℕ) (rest : Option State) (ns : List (Option (List ℕ))) (vs : List ℕ) → p ≡ Some m → rest ≡ Some (number_entries ns vs ++ state) → stored p v rest ≡ Some (number_entries (p ∷ ns) (v ∷ vs) ++ state)
+    put-one : (p : Option (List ℕ)) (m : List ℕ) (v : ℕ) (rest : Option NumberStore) (ns : List (Option (List ℕ))) (vs : List ℕ) → p ≡ Some m → rest ≡ Some (number_entries ns vs ++ state) → stored p v rest ≡ Some (number_entries (p ∷ ns) (v ∷ vs) ++ state)
     put-one None m v rest ns vs e f = absurd cc
     put-one (Some n) m v rest ns vs e f = ap (stored (Some n) v) f
 
@@ -186,14 +186,14 @@ module _ (w : Interpretation) (ins : List ℕ) (a : Assignment) where
         put-one (name_in o) m.0 (w.fun f vs) (outputs_stored w fs vs os state) (map name_in os) (map (λ (g : SymId). w.fun g vs) fs) m.1 (outputs-stored vs fs os behind)
 
     -- a name and nothing else gets a term
-    agree-one : (n : List ℕ) (x : Term) (v : ℕ) → v ≡ value w ins a x → is_held store n ≡ false → Agree (store ++ entries (Some n ∷ []) (x ∷ [])) ((n, v) ∷ state)
-    agree-one n x v e h = subst (λ (z : ℕ). Agree (store ++ entries (Some n ∷ []) (x ∷ [])) ((n, z) ∷ state)) (sym e) (agree-put store state (Some n ∷ []) (x ∷ []) agree (or_both (is_held store n) false h refl))
+    agree-one : (n : List ℕ) (x : Term) (v : ℕ) → v ≡ value w ins a x → is_held store n ≡ false → Agree (store ++ entries_held (Some n ∷ []) (x ∷ [])) ((n, v) ∷ state)
+    agree-one n x v e h = subst (λ (z : ℕ). Agree (store ++ entries_held (Some n ∷ []) (x ∷ [])) ((n, z) ∷ state)) (sym e) (agree-put store state (Some n ∷ []) (x ∷ []) agree (or_both (is_held store n) false h refl))
 
     -- what a call makes of both
     record CallRan (n : List ℕ) (o : Option Routine) (args : List Operand) : Type 0 where
-      new : State
+      new : NumberStore
       runs : routine_called w t n o args state ≡ Some new
-      agrees : Agree (store ++ entries (map name_in (set_by_call o args)) (call_terms t store o args)) new
+      agrees : Agree (store ++ entries_held (map name_in (set_by_call o args)) (call_terms t store o args)) new
 
     routine-ran : (n : List ℕ) (r : Routine) (args : List Operand) → fit_operands t sorts store r.inputs (take (length r.inputs) args) ≡ true → list_any (is_held store) (call_targets (Some r) args) ≡ false → are_targets t d u (map name_in (drop (length r.inputs) args)) (map (result_sort t.sig) r.outputs) ≡ true → CallRan n (Some r) args
     routine-ran n r args fit free targets =
@@ -203,7 +203,7 @@ module _ (w : Interpretation) (ins : List ℕ) (a : Assignment) where
         record {
           new = number_entries (map name_in outputs) (map (λ (f : SymId). w.fun f (values w ins a xs)) r.outputs) ++ state;
           runs = ap (option_and_then (λ vs. outputs_stored w r.outputs vs outputs state)) (operands-valued r.inputs inputs fit) ∙ outputs-stored (values w ins a xs) r.outputs outputs targets;
-          agrees = subst (λ (vs : List ℕ). Agree (store ++ entries (map name_in outputs) (map (λ (f : SymId). App f xs) r.outputs)) (number_entries (map name_in outputs) vs ++ state)) (apps-valued xs r.outputs)
+          agrees = subst (λ (vs : List ℕ). Agree (store ++ entries_held (map name_in outputs) (map (λ (f : SymId). App f xs) r.outputs)) (number_entries (map name_in outputs) vs ++ state)) (apps-valued xs r.outputs)
               (agree-put store state (map name_in outputs) (map (λ (f : SymId). App f xs) r.outputs) agree (sym (ap (list_any (is_held store)) (names-listed outputs)) ∙ free));
         }
 
@@ -220,8 +220,8 @@ module _ (w : Interpretation) (ins : List ℕ) (a : Assignment) where
           runs = ap (λ b. cond b (copied (held_by state (name_in p)) (name_in q) state) None) copies
               ∙ ap (λ o. copied o (name_in q) state) (copied-value (name_in p) x.0 x.1)
               ∙ ap (λ o. copied (Some (value w ins a x.0)) o state) m.1;
-          agrees = subst (λ (o : Option Term). Agree (store ++ entries (name_in q ∷ []) (listed_term o)) ((m.0, value w ins a x.0) ∷ state)) (sym x.1)
-              (subst (λ (o : Option (List ℕ)). Agree (store ++ entries (o ∷ []) (x.0 ∷ [])) ((m.0, value w ins a x.0) ∷ state)) (sym m.1)
+          agrees = subst (λ (o : Option Term). Agree (store ++ entries_held (name_in q ∷ []) (listed_term o)) ((m.0, value w ins a x.0) ∷ state)) (sym x.1)
+              (subst (λ (o : Option (List ℕ)). Agree (store ++ entries_held (o ∷ []) (x.0 ∷ [])) ((m.0, value w ins a x.0) ∷ state)) (sym m.1)
               (agree-one m.0 x.0 (value w ins a x.0) refl (or_false-left (is_held store m.0) false (sym (ap (λ (o : Option (List ℕ)). list_any (is_held store) (listed_target o ++ [])) m.1) ∙ free))));
         }
 
@@ -239,9 +239,9 @@ module _ (w : Interpretation) (ins : List ℕ) (a : Assignment) where
     call-ran n None args known count fit free targets = copy-ran n args (false_not (is_copy t n) known) count fit free targets
 
     record ApplyRan (target : List ℕ) (o : Option FortranFunction) (args : List Operand) : Type 0 where
-      new : State
-      runs : applied w t target o args state ≡ Some new
-      agrees : Agree (store ++ entries (Some target ∷ []) (applied_terms t store o args)) new
+      new : NumberStore
+      runs : function_applied w t target o args state ≡ Some new
+      agrees : Agree (store ++ entries_held (Some target ∷ []) (applied_terms t store o args)) new
 
     apply-ran : (target : List ℕ) (o : Option FortranFunction) (args : List Operand) → fits_function t sorts store o args ≡ true → is_held store target ≡ false → ApplyRan target o args
     apply-ran target None args fit free = absurd (true≢false (sym fit))
@@ -255,7 +255,7 @@ module _ (w : Interpretation) (ins : List ℕ) (a : Assignment) where
 
     -- a statement that passes is run, and the stores still agree
     record Ran (s : Statement) : Type 0 where
-      new : State
+      new : NumberStore
       runs : executed w t d s state ≡ Some new
       agrees : Agree (put t d store s) new
 
@@ -268,7 +268,7 @@ module _ (w : Interpretation) (ins : List ℕ) (a : Assignment) where
         record {
           new = (target, value w ins a x.0) ∷ state;
           runs = ap (option_map (λ v. (target, v) ∷ state)) (assigned-valued (output_sort d target) from ∙ ap (option_map (value w ins a)) x.1);
-          agrees = subst (λ (o : Option Term). Agree (store ++ entries (Some target ∷ []) (listed_term o)) ((target, value w ins a x.0) ∷ state)) (sym x.1)
+          agrees = subst (λ (o : Option Term). Agree (store ++ entries_held (Some target ∷ []) (listed_term o)) ((target, value w ins a x.0) ∷ state)) (sym x.1)
               (agree-one target x.0 (value w ins a x.0) refl (or_false-left (is_held store target) false (free_targets t d u sorts store (Assign target from) p)));
         }
     ran (Apply target n args) p =
@@ -276,32 +276,32 @@ module _ (w : Interpretation) (ins : List ℕ) (a : Assignment) where
         record { new = c.new; runs = c.runs; agrees = c.agrees }
 
   -- what the outputs hold
-  outputs-valued : (store : Store) (state : State) → Agree store state → (ns : List (List ℕ)) (ts : List Term) → terms_held store ns ≡ Some ts → map (held state) ns ≡ map Some (values w ins a ts)
+  outputs-valued : (store : Store) (state : NumberStore) → Agree store state → (ns : List (List ℕ)) (ts : List Term) → terms_held store ns ≡ Some ts → map (number_held state) ns ≡ map Some (values w ins a ts)
   outputs-valued store state agree [] ts e = let is : [] ≡ ts = cc in ap (λ (xs : List Term). map Some (values w ins a xs)) is
   outputs-valued store state agree (n ∷ ns) ts e = by_terms (λ xs g. outputs-valued store state agree ns xs g) (term_held store n) (terms_held store ns) refl refl e
     where
-      by_terms : ((xs : List Term) → terms_held store ns ≡ Some xs → map (held state) ns ≡ map Some (values w ins a xs)) → (o : Option Term) (os : Option (List Term)) → term_held store n ≡ o → terms_held store ns ≡ os → with_term o os ≡ Some ts → map (held state) (n ∷ ns) ≡ map Some (values w ins a ts)
+      by_terms : ((xs : List Term) → terms_held store ns ≡ Some xs → map (number_held state) ns ≡ map Some (values w ins a xs)) → (o : Option Term) (os : Option (List Term)) → term_held store n ≡ o → terms_held store ns ≡ os → with_held_term o os ≡ Some ts → map (number_held state) (n ∷ ns) ≡ map Some (values w ins a ts)
       by_terms rest None os h g e = absurd cc
       by_terms rest (Some x) None h g e = absurd cc
       by_terms rest (Some x) (Some xs) h g e =
           let is : x ∷ xs ≡ ts = cc in
-          ap (λ o. o ∷ map (held state) ns) (agree n ∙ ap (option_map (value w ins a)) h)
+          ap (λ o. o ∷ map (number_held state) ns) (agree n ∙ ap (option_map (value w ins a)) h)
           ∙ ap (λ os. Some (value w ins a x) ∷ os) (rest xs g)
           ∙ ap (λ (ys : List Term). map Some (values w ins a ys)) is
 
   module _ (t : Theory) (d : Diagram) (u : Subroutine) where
     -- the run of statements that pass, and what the outputs hold behind it
-    pub record AllRan (ss : List Statement) (state : State) (ts : List Term) : Type 0 where
-      pub end : State
+    pub record AllRan (ss : List Statement) (state : NumberStore) (ts : List Term) : Type 0 where
+      pub end : NumberStore
       pub runs : executed_all w t d ss state ≡ Some end
-      pub hold : map (held end) (names_of d.outputs) ≡ map Some (values w ins a ts)
+      pub hold : map (number_held end) (entry_names d.outputs) ≡ map Some (values w ins a ts)
 
-    pub all-ran : (store : Store) (state : State) (ss : List Statement) (ts : List Term) → Agree store state → AllPass t d u store ss ts → AllRan ss state ts
-    all-ran store state [] ts agree p = record { end = state; runs = refl; hold = outputs-valued store state agree (names_of d.outputs) ts p.1 }
+    pub all-ran : (store : Store) (state : NumberStore) (ss : List Statement) (ts : List Term) → Agree store state → AllPass t d u store ss ts → AllRan ss state ts
+    all-ran store state [] ts agree p = record { end = state; runs = refl; hold = outputs-valued store state agree (entry_names d.outputs) ts p.1 }
     all-ran store state (s ∷ ss) ts agree p =
-        let r = ran t d u (sorts_in d.inputs) store state agree s p.0 in
+        let r = ran t d u (entry_sorts d.inputs) store state agree s p.0 in
         let rest = all-ran (put t d store s) r.new ss ts r.agrees p.1 in
         record { end = rest.end; runs = ap (option_and_then (executed_all w t d ss)) r.runs ∙ rest.runs; hold = rest.hold }
 
-    pub unit-ran : (ts : List Term) → Members w (sorts_in d.inputs) ins → UnitPasses t d u ts → AllRan u.statements (started d.inputs ins) ts
-    unit-ran ts members p = all-ran (inputs_held d.inputs) (started d.inputs ins) u.statements ts (starting d.inputs 0 ins members (λ i. ap (slice_index ins) (omega arith))) p.statements
+    pub unit-ran : (ts : List Term) → Members w (entry_sorts d.inputs) ins → UnitPasses t d u ts → AllRan u.statements (handed_in d.inputs ins) ts
+    unit-ran ts members p = all-ran (inputs_held d.inputs) (handed_in d.inputs ins) u.statements ts (starting d.inputs 0 ins members (λ i. ap (slice_index ins) (omega arith))) p.statements

@@ -14,9 +14,9 @@ use Rattle.am_fortran.specs.declared.statement.Operand.{Operand}
 use Rattle.am_fortran.specs.declared.statement.Operand.TheVariants as operand
 use Rattle.am_fortran.specs.declared.statement.Statement.{Statement}
 use Rattle.am_fortran.specs.declared.statement.Statement.TheVariants.{Call, Assign, Apply}
-use Rattle.am_exec.specs.Literals.{literal_at}
+use Rattle.am_exec.specs.Literals.{literal_written}
 use Rattle.am_exec.specs.Run.{name_in, output_sort}
-use Rattle.am_exec.specs.States.{Store, term_held, entries, listed_term, literal_term, operand_terms}
+use Rattle.am_exec.specs.States.{Store, term_held, entries_held, listed_term, literal_term, operand_terms}
 
 -- the arguments that a call reads: those at a routine's inputs, the first of a copy
 abbrev pub read_by_call : Option Routine → List Operand → List Operand
@@ -52,7 +52,7 @@ copied_term store (o ∷ os) = held_in store (name_in o)
 -- the literal symbol that an operand stands for at an output; at any other name there is none
 abbrev pub literal_for : Theory → Option SortId → Operand → Option SymId
 literal_for t None o = None
-literal_for t (Some place) o = literal_at t place o
+literal_for t (Some place) o = literal_written t place o
 
 abbrev pub literal_term_of : Option SymId → Option Term
 literal_term_of None = None
@@ -81,7 +81,7 @@ put_terms t d store (Apply target n args) = applied_terms t store (function_name
 
 -- what the names hold after a statement
 abbrev pub put : Theory → Diagram → Store → Statement → Store
-put t d store s = store ++ entries (target_names t s) (put_terms t d store s)
+put t d store s = store ++ entries_held (target_names t s) (put_terms t d store s)
 
 -- the sort of a term that is there, by the sorts of the inputs
 abbrev pub term_sort : Theory → List SortId → Option Term → Option SortId

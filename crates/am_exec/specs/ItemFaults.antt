@@ -13,7 +13,7 @@ use Rattle.am_theory.specs.declared.theory.FortranFunction.{FortranFunction}
 use Rattle.am_theory.specs.declared.theory.Theory.{Theory}
 use Rattle.am_theory.specs.Lookups.{rep_of, copy_of, result_sort, argument_sorts, routine_named, function_named, fortran_names}
 use Rattle.am_diagram.specs.declared.diagram.Diagram.{Diagram}
-use Rattle.am_diagram.specs.Listed.{names_of}
+use Rattle.am_diagram.specs.Listed.{entry_names}
 use Rattle.am_fortran.specs.declared.statement.FortranType.{FortranType}
 use Rattle.am_fortran.specs.declared.statement.Decl.{Decl}
 use Rattle.am_fortran.specs.declared.statement.Operand.{Operand}
@@ -23,7 +23,7 @@ use Rattle.am_fortran.specs.declared.statement.Statement.TheVariants.{Call, Assi
 use Rattle.am_fortran.specs.declared.unit.Unit.{Unit as Subroutine}
 use Rattle.am_exec.specs.declared.fault.ExecKind.{ExecKind}
 use Rattle.am_exec.specs.declared.fault.ExecKind.TheVariants.{UnknownRoutine, WrongCount, NotSet, WrongSort, SetTwice, BadDeclaration, TooLarge}
-use Rattle.am_exec.specs.Literals.{literal_at}
+use Rattle.am_exec.specs.Literals.{literal_written}
 use Rattle.am_exec.specs.Run.{name_in, output_sort, is_copy}
 use Rattle.am_exec.specs.Lawful.{dummies_of, further, listed_target, targets}
 use Rattle.am_exec.specs.Types.{is_scalar, is_text_of_any_length, same_type, dummy_type, local_type, type_by, type_of_name}
@@ -76,17 +76,17 @@ first_unset store (o ∷ os) = or_later (unset_name store o) (first_unset store 
 -- isn't allowed
 
 -- a literal that the theory has at the place, or a name whose term's sort fits the place
-abbrev pub fits_operand : Theory → List SortId → Store → SortId → Operand → Bool
-fits_operand t ins store place (operand.Name n) = fits_place t.sig (term_sort t ins (term_held store n)) place
-fits_operand t ins store place (operand.Int z) = is_some (literal_at t place (operand.Int z))
-fits_operand t ins store place (operand.Text x) = is_some (literal_at t place (operand.Text x))
+abbrev pub operand_fits_place : Theory → List SortId → Store → SortId → Operand → Bool
+operand_fits_place t ins store place (operand.Name n) = fits_place t.sig (term_sort t ins (term_held store n)) place
+operand_fits_place t ins store place (operand.Int z) = is_some (literal_written t place (operand.Int z))
+operand_fits_place t ins store place (operand.Text x) = is_some (literal_written t place (operand.Text x))
 
 -- as many operands as places, and each fits
 abbrev pub fit_operands : Theory → List SortId → Store → List SortId → List Operand → Bool
 fit_operands t ins store [] [] = true
 fit_operands t ins store [] (o ∷ os) = false
 fit_operands t ins store (s ∷ ss) [] = false
-fit_operands t ins store (s ∷ ss) (o ∷ os) = fits_operand t ins store s o && fit_operands t ins store ss os
+fit_operands t ins store (s ∷ ss) (o ∷ os) = operand_fits_place t ins store s o && fit_operands t ins store ss os
 
 abbrev pub is_name_of : List ℕ → Option (List ℕ) → Bool
 is_name_of n None = false
@@ -145,7 +145,7 @@ same_names (n ∷ ns) (m ∷ ms) = bytes_eq n m && same_names ns ms
 
 -- the unit's name is the diagram's, and the dummies are the inputs and then the outputs
 abbrev pub is_bad_head : Diagram → Subroutine → Bool
-is_bad_head d u = not (bytes_eq u.name d.name && same_names u.dummies (names_of (dummies_of d)))
+is_bad_head d u = not (bytes_eq u.name d.name && same_names u.dummies (entry_names (dummies_of d)))
 
 -- both types are there and are one
 abbrev pub have_one_type : Option FortranType → Option FortranType → Bool
@@ -169,13 +169,13 @@ has_function_type t ty None = false
 has_function_type t ty (Some f) = have_one_type (Some ty) (function_type t (result_sort t.sig f.symbol))
 
 -- a listed function with its result's type
-abbrev pub is_function : Theory → Decl → Bool
-is_function t e = has_function_type t e.ty (function_named t e.name)
+abbrev pub is_declared_function : Theory → Decl → Bool
+is_declared_function t e = has_function_type t e.ty (function_named t e.name)
 
 -- the dummy in its turn, with the type that its sort gives; behind the dummies a local or a function
 abbrev pub declares : Theory → Subroutine → Option (List ℕ × SortId) → Decl → Bool
 declares t u (Some dummy) e = bytes_eq e.name dummy.0 && have_one_type (Some e.ty) (type_by dummy_type (rep_of t dummy.1))
-declares t u None e = is_local t u e || is_function t e
+declares t u None e = is_local t u e || is_declared_function t e
 
 -- a declaration behind earlier ones: its name is one of theirs, or it isn't what may stand there
 abbrev pub is_bad_declaration : Theory → Diagram → Subroutine → List Decl → Decl → Bool
@@ -191,7 +191,7 @@ declared_type u n = option_map (λ (e : Decl). e.ty) (find (λ (e : Decl). bytes
 
 -- an output, or a declared name that is neither a dummy's nor a function's
 abbrev pub may_be_set : Theory → Diagram → Subroutine → List ℕ → Bool
-may_be_set t d u n = is_among n (names_of d.outputs) || (is_among n (declared_names (further u)) && is_none (function_named t n))
+may_be_set t d u n = is_among n (entry_names d.outputs) || (is_among n (declared_names (further u)) && is_none (function_named t n))
 
 -- a name that may be set and has the type that the sort gives
 abbrev pub is_target : Theory → Diagram → Subroutine → Option (List ℕ) → Option SortId → Bool

@@ -10,7 +10,7 @@ use Rattle.am_theory.specs.declared.theory.FortranFunction.{FortranFunction}
 use Rattle.am_theory.specs.declared.theory.Theory.{Theory}
 use Rattle.am_theory.specs.Lookups.{rep_of, copy_of, result_sort, argument_sorts, routine_named, function_named, fortran_names}
 use Rattle.am_diagram.specs.declared.diagram.Diagram.{Diagram}
-use Rattle.am_diagram.specs.Listed.{names_of}
+use Rattle.am_diagram.specs.Listed.{entry_names}
 use Rattle.am_fortran.specs.declared.statement.FortranType.{FortranType}
 use Rattle.am_fortran.specs.declared.statement.FortranType.TheVariants as fortran
 use Rattle.am_fortran.specs.declared.statement.Decl.{Decl}
@@ -19,7 +19,7 @@ use Rattle.am_fortran.specs.declared.statement.Operand.TheVariants as operand
 use Rattle.am_fortran.specs.declared.statement.Statement.{Statement}
 use Rattle.am_fortran.specs.declared.statement.Statement.TheVariants.{Call, Assign, Apply}
 use Rattle.am_fortran.specs.declared.unit.Unit.{Unit as Subroutine}
-use Rattle.am_exec.specs.Literals.{literal_at}
+use Rattle.am_exec.specs.Literals.{literal_written}
 use Rattle.am_exec.specs.Run.{name_in, output_sort}
 use Rattle.am_exec.specs.Types.{dummy_type, local_type, is_scalar, type_by, type_of_name}
 
@@ -28,8 +28,8 @@ abbrev pub dummies_of : Diagram → List (List ℕ × SortId)
 dummies_of d = d.inputs ++ d.outputs
 
 -- a declaration as a name and its type
-abbrev pub typed : Decl → List ℕ × Option FortranType
-typed e = (e.name, Some e.ty)
+abbrev pub typed_name : Decl → List ℕ × Option FortranType
+typed_name e = (e.name, Some e.ty)
 
 -- a dummy with the type that its sort gives
 abbrev pub typed_dummy : Theory → List ℕ × SortId → List ℕ × Option FortranType
@@ -47,7 +47,7 @@ abbrev pub further : Subroutine → List Decl
 further u = drop (length u.dummies) u.declarations
 
 -- a listed function, declared with its result's type
-pub record IsFunction (t : Theory) (e : Decl) : Type 0 where
+pub record IsDeclaredFunction (t : Theory) (e : Decl) : Type 0 where
   pub function : FortranFunction
   pub listed : function_named t e.name ≡ Some function
   pub sort : SortId
@@ -64,8 +64,8 @@ pub record IsLocal (t : Theory) (u : Subroutine) (e : Decl) : Type 0 where
 -- a literal whose sort fits that of its place, or a name with the type that this sort gives
 abbrev pub IsOperandAt : Theory → Subroutine → SortId → Operand → Type 0
 IsOperandAt t u s (operand.Name n) = HasTypeOf t u n s
-IsOperandAt t u s (operand.Int z) = (f : SymId) × (literal_at t s (operand.Int z) ≡ Some f)
-IsOperandAt t u s (operand.Text x) = (f : SymId) × (literal_at t s (operand.Text x) ≡ Some f)
+IsOperandAt t u s (operand.Int z) = (f : SymId) × (literal_written t s (operand.Int z) ≡ Some f)
+IsOperandAt t u s (operand.Text x) = (f : SymId) × (literal_written t s (operand.Text x) ≡ Some f)
 
 -- as many operands as places, each right at its place
 abbrev pub AreOperandsAt : Theory → Subroutine → List SortId → List Operand → Type 0
@@ -76,7 +76,7 @@ AreOperandsAt t u (s ∷ ss) (o ∷ os) = IsOperandAt t u s o × AreOperandsAt t
 
 -- an output of the diagram or a declared local, with the type of the sort that is put there
 pub record IsTarget (t : Theory) (d : Diagram) (u : Subroutine) (n : List ℕ) (s : SortId) : Type 0 where
-  pub settable : IsTrue (is_among n (names_of d.outputs)) ⊎ ((e : Decl) × Contains (further u) e × (e.name ≡ n) × IsLocal t u e)
+  pub settable : IsTrue (is_among n (entry_names d.outputs)) ⊎ ((e : Decl) × Contains (further u) e × (e.name ≡ n) × IsLocal t u e)
   pub typed : HasTypeOf t u n s
 
 abbrev pub IsNamedTarget : Theory → Diagram → Subroutine → Option (List ℕ) → Option SortId → Type 0
@@ -128,7 +128,7 @@ pub record IsLiteralAssign (t : Theory) (d : Diagram) (u : Subroutine) (target :
   pub sort : SortId
   pub output : output_sort d target ≡ Some sort
   pub literal : SymId
-  pub stands : literal_at t sort from ≡ Some literal
+  pub stands : literal_written t sort from ≡ Some literal
   pub settable : IsTarget t d u target sort
 
 abbrev pub IsAssign : Theory → Diagram → Subroutine → List ℕ → Operand → Type 0
@@ -173,11 +173,11 @@ targets t (Apply target n args) = target ∷ []
 pub record Lawful (t : Theory) (d : Diagram) (u : Subroutine) : Type 0 where
   -- the unit's name is the diagram's, and its dummies are the inputs and then the outputs
   pub named : u.name ≡ d.name
-  pub dummies : u.dummies ≡ names_of (dummies_of d)
+  pub dummies : u.dummies ≡ entry_names (dummies_of d)
   -- the dummies are declared first, in order, with the types that their sorts give
-  pub declared : map typed (take (length u.dummies) u.declarations) ≡ map (typed_dummy t) (dummies_of d)
+  pub declared : map typed_name (take (length u.dummies) u.declarations) ≡ map (typed_dummy t) (dummies_of d)
   -- then come locals and functions
-  pub behind : AllByRecursion (λ e. IsLocal t u e ⊎ IsFunction t e) (further u)
+  pub behind : AllByRecursion (λ e. IsLocal t u e ⊎ IsDeclaredFunction t e) (further u)
   -- no name is declared twice
   pub declared_once : IsTrue (are_distinct (map (λ (e : Decl). e.name) u.declarations))
   -- each statement calls what the theory lists, with operands and targets of the right types

@@ -26,5 +26,5 @@ sort_fits t None place = false
 sort_fits t (Some s) place = fits t.sig s place
 
 -- the literal symbol that has the value an operand writes, and whose sort fits that of the place
-abbrev pub literal_at : Theory → SortId → Operand → Option SymId
-literal_at t place o = option_map (λ (l : LiteralDecl). l.symbol) (find (λ (l : LiteralDecl). writes o l.value && sort_fits t (result_sort t.sig l.symbol) place) t.literals)
+abbrev pub literal_written : Theory → SortId → Operand → Option SymId
+literal_written t place o = option_map (λ (l : LiteralDecl). l.symbol) (find (λ (l : LiteralDecl). writes o l.value && sort_fits t (result_sort t.sig l.symbol) place) t.literals)

@@ -3,18 +3,18 @@ use Rattle.std.specs.Prelude.{◌≡◌, ℕ, Some, List, map}
 use Rattle.am_world.specs.Interpretation.{Interpretation}
 use Rattle.am_theory.specs.declared.theory.Theory.{Theory}
 use Rattle.am_diagram.specs.declared.diagram.Diagram.{Diagram}
-use Rattle.am_diagram.specs.Listed.{names_of}
+use Rattle.am_diagram.specs.Listed.{entry_names}
 use Rattle.am_fortran.specs.declared.unit.Unit.{Unit as Subroutine}
 use Rattle.am_exec.specs.Given.{Given, Spec}
 use Rattle.am_exec.specs.Lawful.{Lawful}
-use Rattle.am_exec.specs.Run.{State, held, run}
+use Rattle.am_exec.specs.Run.{NumberStore, number_held, unit_run}
 
 -- There is a run, each output holds a number at its end, and these numbers are what the diagram asks for.
 pub record Solves (w : Interpretation) (t : Theory) (d : Diagram) (u : Subroutine) (ins : List ℕ) : Type 0 where
-  pub end : State
-  pub runs : run w t d u ins ≡ Some end
+  pub end : NumberStore
+  pub runs : unit_run w t d u ins ≡ Some end
   pub outs : List ℕ
-  pub hold : map (held end) (names_of d.outputs) ≡ map Some outs
+  pub hold : map (number_held end) (entry_names d.outputs) ≡ map Some outs
   pub meets : Spec w d ins outs
 
 -- The unit is lawful, and it solves the diagram for all inputs that meet the givens.

@@ -1,7 +1,7 @@
 ghost use Rattle.std.specs.Prelude.{◌≡◌, ◌<◌, IfOk, IfSome, ◌++◌, [], length, take, drop, slice_get, option_copied};
-ghost use Rattle.am_diagram.specs.Listed.{names_of};
+ghost use Rattle.am_diagram.specs.Listed.{entry_names};
 ghost use Rattle.am_exec.specs.Lawful.{dummies_of, further as declared_behind};
-ghost use Rattle.am_exec.specs.ItemFaults.{same_names as are_same_names, is_bad_head as is_head_bad, is_local as is_lawful_local, is_function as is_lawful_function, declares as is_declaring, is_bad_declaration as is_declaration_bad, declared_names, lacks_dummy as is_dummy_lacking, declared_type as type_declared, may_be_set as is_settable};
+ghost use Rattle.am_exec.specs.ItemFaults.{same_names as are_same_names, is_bad_head as is_head_bad, is_local as is_lawful_local, is_declared_function as is_lawful_function, declares as is_declaring, is_bad_declaration as is_declaration_bad, declared_names, lacks_dummy as is_dummy_lacking, declared_type as type_declared, may_be_set as is_settable};
 ghost use Rattle.am_exec.specs.Places.{type_at as type_declared_at};
 ghost use Rattle.am_exec.specs.Terms.{bad_declaration as first_bad};
 
@@ -33,7 +33,7 @@ pub fn is_bad_head(diagram: &Diagram, unit: &Unit) -> bool
 }
 
 fn same_names(names: &[Name], list: &[(Name, SortId)]) -> bool
-    ensures { result ≡ are_same_names names.now (names_of list.now) }
+    ensures { result ≡ are_same_names names.now (entry_names list.now) }
 {
     let mut left = names;
     let mut rest = list;

@@ -2,7 +2,7 @@ ghost use Rattle.std.specs.Prelude.{◌≡◌, ◌++◌, ◌∷◌, [], Some, ma
 ghost use Rattle.am_term.specs.declared.id.SymId.{SymId};
 ghost use Rattle.am_term.specs.declared.term.Term.TheVariants.{App};
 ghost use Rattle.am_exec.specs.Run.{name_in as named_by, output_sort};
-ghost use Rattle.am_exec.specs.States.{listed_term, entry, entries};
+ghost use Rattle.am_exec.specs.States.{listed_term, entry, entries_held};
 ghost use Rattle.am_exec.specs.Effects.{call_terms, copied_term as term_copied, literal_term_of, assigned_term as term_assigned, target_names, put_terms};
 
 use crate::faults::{behind, copied_term, front, literal_for};
@@ -23,7 +23,8 @@ pub fn effects(
     store: &Store,
     statement: &Statement,
 ) -> Result<Items<(Name, Term)>, NoMemory>
-    ensures { IfOk result (λ made. made ≡ entries (target_names scene.now.theory.now statement.now) (put_terms scene.now.theory.now scene.now.diagram.now store.now statement.now)) }
+    ensures { IfOk result (λ made. made ≡ entries_held (target_names scene.now.theory.now statement.now)
+        (put_terms scene.now.theory.now scene.now.diagram.now store.now statement.now)) }
 {
     match statement {
         Statement::Call { routine, args } => match routine_named(scene.theory, routine) {
@@ -66,7 +67,8 @@ fn called(
     routine: &Routine,
     args: &[Operand],
 ) -> Result<Items<(Name, Term)>, NoMemory>
-    ensures { IfOk result (λ made. made ≡ entries (map named_by (drop (length routine.now.inputs) args.now)) (call_terms theory.now store.now (Some routine.now) args.now)) }
+    ensures { IfOk result (λ made. made ≡ entries_held (map named_by (drop (length routine.now.inputs) args.now))
+        (call_terms theory.now store.now (Some routine.now) args.now)) }
 {
     let places = routine.inputs.as_slice();
     let inputs = front(args, places.len());
@@ -83,7 +85,8 @@ fn outputs(
     args: &[Term],
     targets: &[Operand],
 ) -> Result<Items<(Name, Term)>, NoMemory>
-    ensures { IfOk result (λ made. made ≡ entries (map named_by targets.now) (map (λ (f : SymId). App f args.now) outputs.now)) }
+    ensures { IfOk result (λ made. made ≡ entries_held (map named_by targets.now) (map (λ (f : SymId).
+        App f args.now) outputs.now)) }
 {
     let mut made = Items::new(alloc);
     let mut left = outputs;
@@ -108,7 +111,8 @@ fn outputs(
 // The second argument of a copy, where it is a name, with what the first one holds.
 #[tactic(auto, using(crate::proofs::Stores::storing))]
 fn copied(alloc: Global, store: &Store, args: &[Operand]) -> Result<Items<(Name, Term)>, NoMemory>
-    ensures { IfOk result (λ made. made ≡ entries (map named_by (drop 1 args.now)) (listed_term (term_copied store.now args.now))) }
+    ensures { IfOk result (λ made. made ≡ entries_held (map named_by (drop 1 args.now))
+        (listed_term (term_copied store.now args.now))) }
 {
     let term = match copied_term(store, args) {
         Some(term) => copy(alloc, term)?,
@@ -139,7 +143,9 @@ fn assigned(
     target: &Name,
     from: &Operand,
 ) -> Result<Items<(Name, Term)>, NoMemory>
-    ensures { IfOk result (λ made. made ≡ entries (Some target.now ∷ []) (listed_term (term_assigned scene.now.theory.now store.now (output_sort scene.now.diagram.now target.now) from.now))) }
+    ensures { IfOk result (λ made. made ≡ entries_held (Some target.now ∷ [])
+        (listed_term (term_assigned scene.now.theory.now store.now
+        (output_sort scene.now.diagram.now target.now) from.now))) }
 {
     match assigned_term(alloc, scene, store, target, from)? {
         Some(term) => named(alloc, target, term),
@@ -155,7 +161,8 @@ fn assigned_term(
     target: &Name,
     from: &Operand,
 ) -> Result<Option<Term>, NoMemory>
-    ensures { IfOk result (λ term. term ≡ term_assigned scene.now.theory.now store.now (output_sort scene.now.diagram.now target.now) from.now) }
+    ensures { IfOk result (λ term. term ≡ term_assigned scene.now.theory.now store.now
+        (output_sort scene.now.diagram.now target.now) from.now) }
 {
     match from {
         Operand::Name(name) => match store.get(name) {

@@ -3,7 +3,7 @@ ghost use Rattle.am_term.specs.Sorting.{sort_of};
 ghost use Rattle.am_exec.specs.Run.{output_sort};
 ghost use Rattle.am_exec.specs.States.{term_held as held_under, is_held as is_name_held};
 ghost use Rattle.am_exec.specs.Effects.{reads, copied_term as term_copied, literal_for as literal_asked, term_sort};
-ghost use Rattle.am_exec.specs.ItemFaults.{is_unknown as is_called_unknown, has_wrong_count as is_count_wrong, first_unset as unset_first, unset_name as name_unset, fits_operand as is_operand_fitting, fit_operands as are_operands_fitting, fits_assign as is_assign_fitting, is_copied_by as is_sort_copied, is_scalar_sort as is_sort_scalar, has_wrong_sort as is_sort_wrong};
+ghost use Rattle.am_exec.specs.ItemFaults.{is_unknown as is_called_unknown, has_wrong_count as is_count_wrong, first_unset as unset_first, unset_name as name_unset, operand_fits_place as is_operand_fitting, fit_operands as are_operands_fitting, fits_assign as is_assign_fitting, is_copied_by as is_sort_copied, is_scalar_sort as is_sort_scalar, has_wrong_sort as is_sort_wrong};
 
 use crate::lookups::{literal_at, sort_listed};
 use crate::operands::name_in;
@@ -124,7 +124,8 @@ pub fn behind(operands: &[Operand], count: usize) -> &[Operand]
 /// Whether an operand's term has another sort than its place, there is no such literal, or what is
 /// copied may not be.
 pub fn has_wrong_sort(scene: &Scene, store: &Store, statement: &Statement) -> bool
-    ensures { result ≡ is_sort_wrong scene.now.theory.now scene.now.diagram.now scene.now.ins.now store.now statement.now }
+    ensures { result ≡ is_sort_wrong scene.now.theory.now scene.now.diagram.now scene.now.ins.now store.now
+        statement.now }
 {
     match statement {
         Statement::Call { routine, args } => match routine_named(scene.theory, routine) {
@@ -237,7 +238,8 @@ fn is_copied_by(theory: &Theory, routine: &Name, sort: Option<SortId>) -> bool
 }
 
 fn fits_assign(scene: &Scene, store: &Store, target: &Name, from: &Operand) -> bool
-    ensures { result ≡ is_assign_fitting scene.now.theory.now scene.now.ins.now store.now (output_sort scene.now.diagram.now target.now) from.now }
+    ensures { result ≡ is_assign_fitting scene.now.theory.now scene.now.ins.now store.now
+        (output_sort scene.now.diagram.now target.now) from.now }
 {
     match from {
         Operand::Name(name) => is_scalar_sort(scene.theory, held_sort(scene, store, name)),

@@ -1,15 +1,15 @@
 ghost use Rattle.std.specs.Prelude.{◌≡◌};
 ghost use Rattle.am_term.specs.NameLists.{is_among};
-ghost use Rattle.am_diagram.specs.Listed.{names_of};
-ghost use Rattle.am_exec.specs.Literals.{literal_at as literal_with, sort_fits as is_sort_fitting, writes as is_written};
+ghost use Rattle.am_diagram.specs.Listed.{entry_names};
+ghost use Rattle.am_exec.specs.Literals.{literal_written as literal_with, sort_fits as is_sort_fitting, writes as is_written};
 ghost use Rattle.am_exec.specs.Run.{sort_listed as sort_under};
 
 use am_fortran::Operand;
 use am_term::{Name, SortId, SymId, fits};
 use am_theory::{LitValue, Theory, result_sort};
 
-/// The literal symbol that has the value which an operand writes, and whose sort fits the place. Takes no memory, as all
-/// in this file.
+/// The literal symbol that has the value which an operand writes, and whose sort fits the place. Takes no memory, as
+/// all in this file.
 pub fn literal_at(theory: &Theory, place: SortId, operand: &Operand) -> Option<SymId>
     ensures { result ≡ literal_with theory.now place operand.now }
 {
@@ -63,7 +63,7 @@ pub fn sort_listed(name: &Name, list: &[(Name, SortId)]) -> Option<SortId>
 
 /// Whether the name is listed with a sort.
 pub fn is_listed(name: &Name, list: &[(Name, SortId)]) -> bool
-    ensures { result ≡ is_among name.now (names_of list.now) }
+    ensures { result ≡ is_among name.now (entry_names list.now) }
 {
     let mut rest = list;
     while let [entry, behind @ ..] = rest {

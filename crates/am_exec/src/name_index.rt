@@ -76,7 +76,8 @@ fn placed(
     name: &Name,
     at: usize,
 ) -> Result<HashMap<String, usize>, NoMemory>
-    ensures { IfOk result (λ new. (q : List ℕ) → get_by_text new q ≡ or_at (get_by_text places q) (bytes_eq q name.now) at) }
+    ensures { IfOk result (λ new. (q : List ℕ)
+        → get_by_text new q ≡ or_at (get_by_text places q) (bytes_eq q name.now) at) }
 {
     if places.get(name.as_str()).is_some() {
         return Ok(places);

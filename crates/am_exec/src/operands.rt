@@ -91,7 +91,8 @@ pub fn operand_terms(
 // Takes no memory.
 #[tactic(auto, using(crate::proofs::Stores::storing))]
 fn operand_nodes(theory: &Theory, store: &Store, place: SortId, operand: &Operand) -> u32
-    ensures { result ≡ min (sum_by nodes (listed_term (operand_stands theory.now store.now place operand.now))) (MOST_NODES + 1) }
+    ensures { result ≡ min (sum_by nodes (listed_term (operand_stands theory.now store.now place operand.now)))
+        (MOST_NODES + 1) }
 {
     match operand {
         Operand::Name(name) => match store.get(name) {
@@ -122,7 +123,8 @@ pub fn operands_nodes(
     places: &[SortId],
     operands: &[Operand],
 ) -> u32
-    ensures { result ≡ min (sum_by nodes (operands_stand theory.now store.now places.now operands.now)) (MOST_NODES + 1) }
+    ensures { result ≡ min (sum_by nodes (operands_stand theory.now store.now places.now operands.now))
+        (MOST_NODES + 1) }
 {
     let mut total: u32 = 0;
     let mut left = places;

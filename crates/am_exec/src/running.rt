@@ -1,9 +1,9 @@
 ghost use Rattle.std.specs.Prelude.{◌≡◌, ◌+◌, ◌-◌, ◌<◌, ◌≤◌, ◌^◌, length, IfOk};
-ghost use Rattle.am_diagram.specs.Listed.{names_of, sorts_in};
+ghost use Rattle.am_diagram.specs.Listed.{entry_names, entry_sorts};
 ghost use Rattle.am_exec.specs.ItemFaults.{statement_kind as first_kind};
 ghost use Rattle.am_exec.specs.States.{inputs_held as held_at_start};
 ghost use Rattle.am_exec.specs.Effects.{put as put_all};
-ghost use Rattle.am_exec.specs.Terms.{terms, unless, stated as run_on, ended as run_to_end, terms_held as all_held, IsAnswer};
+ghost use Rattle.am_exec.specs.Terms.{terms, unless, stated as run_on, at_end as run_to_end, terms_held as all_held, IsAnswer};
 
 use crate::declarations::{bad_declaration, further, is_bad_head, lacks_dummy, names_declared};
 use crate::effects::effects;
@@ -59,7 +59,7 @@ pub fn symbolic(
 }
 
 fn input_sorts(alloc: Global, diagram: &Diagram) -> Result<Items<SortId>, NoMemory>
-    ensures { IfOk result (λ sorts. sorts ≡ sorts_in diagram.now.inputs) }
+    ensures { IfOk result (λ sorts. sorts ≡ entry_sorts diagram.now.inputs) }
 {
     let mut sorts = Items::new(alloc);
     for input in diagram.inputs.as_slice() {
@@ -73,8 +73,10 @@ fn input_sorts(alloc: Global, diagram: &Diagram) -> Result<Items<SortId>, NoMemo
 fn stated(alloc: Global, scene: &Scene) -> Result<Items<Term>, ExecFault>
     requires few { length scene.now.unit.now.declarations + length scene.now.unit.now.statements + 2 < 2 ^ 32 - 1 }
     requires inputs { length scene.now.diagram.now.inputs ≤ 18 }
-    requires sorts { scene.now.ins.now ≡ sorts_in scene.now.diagram.now.inputs }
-    ensures { IsAnswer result (run_on scene.now.theory.now scene.now.diagram.now scene.now.unit.now (length scene.now.unit.now.declarations + 2) (held_at_start scene.now.diagram.now.inputs) scene.now.unit.now.statements) }
+    requires sorts { scene.now.ins.now ≡ entry_sorts scene.now.diagram.now.inputs }
+    ensures { IsAnswer result (run_on scene.now.theory.now scene.now.diagram.now scene.now.unit.now
+        (length scene.now.unit.now.declarations + 2)
+        (held_at_start scene.now.diagram.now.inputs) scene.now.unit.now.statements) }
 {
     let mut item = scene.unit.declarations.len() as u32 + 2;
     let mut store = inputs_held(alloc, scene.diagram)?;
@@ -96,7 +98,9 @@ fn step(
     store: Store,
     statement: &Statement,
 ) -> Result<Store, ExecFault>
-    ensures { IsAnswer result (unless item (first_kind scene.now.theory.now scene.now.diagram.now scene.now.unit.now scene.now.ins.now store statement.now) (put_all scene.now.theory.now scene.now.diagram.now store statement.now)) }
+    ensures { IsAnswer result (unless item
+        (first_kind scene.now.theory.now scene.now.diagram.now scene.now.unit.now scene.now.ins.now store
+        statement.now) (put_all scene.now.theory.now scene.now.diagram.now store statement.now)) }
 {
     match statement_kind(alloc, scene, &store, statement)? {
         Some(kind) => Err(ExecFault { item, kind }),
@@ -114,7 +118,8 @@ fn statement_kind(
     store: &Store,
     statement: &Statement,
 ) -> Result<Option<ExecKind>, NoMemory>
-    ensures { IfOk result (λ kind. kind ≡ first_kind scene.now.theory.now scene.now.diagram.now scene.now.unit.now scene.now.ins.now store.now statement.now) }
+    ensures { IfOk result (λ kind. kind ≡ first_kind scene.now.theory.now scene.now.diagram.now scene.now.unit.now
+        scene.now.ins.now store.now statement.now) }
 {
     if is_unknown(scene.theory, statement) {
         return Ok(Some(ExecKind::UnknownRoutine));
@@ -174,7 +179,7 @@ fn outputs_held(
     diagram: &Diagram,
     store: &Store,
 ) -> Result<Option<Items<Term>>, NoMemory>
-    ensures { IfOk result (λ terms. terms ≡ all_held store.now (names_of diagram.now.outputs)) }
+    ensures { IfOk result (λ terms. terms ≡ all_held store.now (entry_names diagram.now.outputs)) }
 {
     let mut made = Items::new(alloc);
     let mut rest = diagram.outputs.as_slice();

@@ -21,13 +21,13 @@ impl Model for Store {
     ghost use Rattle.am_term.specs.declared.term.Term.{Term};
     ghost use Rattle.am_term.specs.contracts.term.Term as term;
     ghost use Rattle.std.specs.Coded.{codes};
-    ghost use Rattle.am_exec.specs.States.{paired};
+    ghost use Rattle.am_exec.specs.States.{store_of};
 
     ghost Value = { List (List ℕ × Term) };
 
     ghost coded = { Prim.hlevel (codes, term.the_row.coded) };
 
-    ghost view = { λ s. paired s.names s.terms };
+    ghost view = { λ s. store_of s.names s.terms };
 
     ghost invariant = { λ s. length s.names ≡ length s.terms };
 }

@@ -36,7 +36,8 @@ pub fn sets_twice(theory: &Theory, store: &Store, statement: &Statement) -> bool
 
 #[tactic(auto, using(crate::proofs::Putting::setting))]
 fn set_twice(store: &Store, targets: &[Operand]) -> bool
-    ensures { result ≡ (list_any (is_name_held store.now) (names_set targets.now) || not (are_distinct (names_set targets.now))) }
+    ensures { result ≡ (list_any (is_name_held store.now) (names_set targets.now) || not
+        (are_distinct (names_set targets.now))) }
 {
     let mut rest = targets;
     while let [target, behind @ ..] = rest {
@@ -68,7 +69,8 @@ fn is_target_of(name: &Name, targets: &[Operand]) -> bool
 /// Whether a dummy has no declaration, a function applied isn't declared, or a target isn't a declared
 /// name that may be set with the type of what is put there.
 pub fn is_badly_declared(scene: &Scene, store: &Store, statement: &Statement) -> bool
-    ensures { result ≡ is_declared_badly scene.now.theory.now scene.now.diagram.now scene.now.unit.now scene.now.ins.now store.now statement.now }
+    ensures { result ≡ is_declared_badly scene.now.theory.now scene.now.diagram.now scene.now.unit.now
+        scene.now.ins.now store.now statement.now }
 {
     if lacks_dummy(scene.unit) {
         return true;
@@ -99,7 +101,8 @@ pub fn is_badly_declared(scene: &Scene, store: &Store, statement: &Statement) ->
 }
 
 fn are_outputs(scene: &Scene, targets: &[Operand], outputs: &[SymId]) -> bool
-    ensures { result ≡ are_targets scene.now.theory.now scene.now.diagram.now scene.now.unit.now (map named_by targets.now) (map (sort_given scene.now.theory.now.sig) outputs.now) }
+    ensures { result ≡ are_targets scene.now.theory.now scene.now.diagram.now scene.now.unit.now
+        (map named_by targets.now) (map (sort_given scene.now.theory.now.sig) outputs.now) }
 {
     let mut left = targets;
     let mut rest = outputs;
@@ -119,7 +122,8 @@ fn are_outputs(scene: &Scene, targets: &[Operand], outputs: &[SymId]) -> bool
 }
 
 fn is_copy_target(scene: &Scene, targets: &[Operand], sort: Option<SortId>) -> bool
-    ensures { result ≡ are_targets scene.now.theory.now scene.now.diagram.now scene.now.unit.now (map named_by targets.now) (sort ∷ []) }
+    ensures { result ≡ are_targets scene.now.theory.now scene.now.diagram.now scene.now.unit.now
+        (map named_by targets.now) (sort ∷ []) }
 {
     match targets {
         [target, rest @ ..] => is_operand_target(scene, target, sort) && rest.is_empty(),
@@ -128,7 +132,8 @@ fn is_copy_target(scene: &Scene, targets: &[Operand], sort: Option<SortId>) -> b
 }
 
 fn is_operand_target(scene: &Scene, target: &Operand, sort: Option<SortId>) -> bool
-    ensures { result ≡ is_lawful_target scene.now.theory.now scene.now.diagram.now scene.now.unit.now (named_by target.now) sort }
+    ensures { result ≡ is_lawful_target scene.now.theory.now scene.now.diagram.now scene.now.unit.now
+        (named_by target.now) sort }
 {
     match name_in(target) {
         Some(name) => is_target(scene, name, sort),
@@ -137,7 +142,8 @@ fn is_operand_target(scene: &Scene, target: &Operand, sort: Option<SortId>) -> b
 }
 
 fn is_target(scene: &Scene, target: &Name, sort: Option<SortId>) -> bool
-    ensures { result ≡ is_lawful_target scene.now.theory.now scene.now.diagram.now scene.now.unit.now (Some target.now) sort }
+    ensures { result ≡ is_lawful_target scene.now.theory.now scene.now.diagram.now scene.now.unit.now
+        (Some target.now) sort }
 {
     match sort {
         Some(sort) => {
@@ -149,7 +155,8 @@ fn is_target(scene: &Scene, target: &Name, sort: Option<SortId>) -> bool
 }
 
 fn assigned_sort(scene: &Scene, store: &Store, target: &Name, from: &Operand) -> Option<SortId>
-    ensures { result ≡ sort_assigned scene.now.theory.now scene.now.ins.now store.now (output_sort scene.now.diagram.now target.now) from.now }
+    ensures { result ≡ sort_assigned scene.now.theory.now scene.now.ins.now store.now
+        (output_sort scene.now.diagram.now target.now) from.now }
 {
     match from {
         Operand::Name(name) => held_sort(scene, store, name),
@@ -220,7 +227,8 @@ fn has_large_output(
     inputs: &[Operand],
     outputs: &[SymId],
 ) -> bool
-    ensures { result ≡ list_any is_term_large (map (λ (f : SymId). App f (operands_stand theory.now store.now places.now inputs.now)) outputs.now) }
+    ensures { result ≡ list_any is_term_large (map (λ (f : SymId).
+        App f (operands_stand theory.now store.now places.now inputs.now)) outputs.now) }
 {
     outputs.len() != 0 && operands_nodes(theory, store, places, inputs) >= MOST_NODES
 }

@@ -18,14 +18,15 @@ use Rattle.am_clause.specs.ClauseForm.{merged_clause, pos, cnf}
 use Rattle.am_clause.specs.Renaming.{Numbers, renamed, renamed_all, renamed_clause, places_in, renumbered, renamed-Var, renumbered-is}
 use Rattle.am_clause.specs.Steps.{clause_at}
 use Rattle.am_clause.specs.Variables.{variables}
+use Rattle.am_clause.specs.Goals.{given_clause, negated}
 use Rattle.am_theory.specs.declared.theory.Rep.{Rep}
 use Rattle.am_theory.specs.declared.theory.Theory.{Theory}
 use Rattle.am_theory.specs.Facts.{IsSort, IsConcrete, WellFormed as WellFormedTheory}
 use Rattle.am_theory.specs.Lookups.{known}
 use Rattle.am_diagram.specs.declared.diagram.Diagram.{Diagram}
-use Rattle.am_diagram.specs.Clauses.{negated, variables_from, output_terms, goal, given_clause, givens}
+use Rattle.am_diagram.specs.Clauses.{entry_variables_from, output_terms, goal, givens}
 use Rattle.am_diagram.specs.Facts.{WellFormed}
-use Rattle.am_diagram.specs.Listed.{sorts_in}
+use Rattle.am_diagram.specs.Listed.{entry_sorts}
 use Rattle.am_diagram.specs.Steps.{formulas_of, sources, IsProof}
 use Rattle.am_fitting.proofs.Bindings.{AnswerFits}
 use Rattle.am_fitting.proofs.FittingSteps.{Fits, StartsFit, all-member, steps-fit}
@@ -49,10 +50,10 @@ module _ (sig : Signature) (ins : List SortId) (to : Numbers) where
       ∙ (ap (λ o. fits_place sig o s) (sort_of-Var sig ins (to n s) s)
       ∙ (ap (λ b. fits_place sig (if b then Some s else None) s) (lt-ltb s.0 (length sig.sorts) h) ∙ fits-same sig s))
 
-  variables-fit : (n : ℕ) (es : List (List ℕ × SortId)) → AllByRecursion (λ (s : SortId). s.0 < length sig.sorts) (sorts_in es)
-      → fit_places sig (sorts_of sig ins (renamed_all to (variables_from n es))) (sorts_in es) ≡ true
+  variables-fit : (n : ℕ) (es : List (List ℕ × SortId)) → AllByRecursion (λ (s : SortId). s.0 < length sig.sorts) (entry_sorts es)
+      → fit_places sig (sorts_of sig ins (renamed_all to (entry_variables_from n es))) (entry_sorts es) ≡ true
   variables-fit n [] h = refl
-  variables-fit n (e ∷ es) h = and_both (term_fits sig ins (renamed to (Var n e.1)) e.1) (fit_places sig (sorts_of sig ins (renamed_all to (variables_from (n + 1) es))) (sorts_in es))
+  variables-fit n (e ∷ es) h = and_both (term_fits sig ins (renamed to (Var n e.1)) e.1) (fit_places sig (sorts_of sig ins (renamed_all to (entry_variables_from (n + 1) es))) (entry_sorts es))
       (variable-fits n e.1 h.0) (variables-fit (n + 1) es h.1)
 
 -- ---- what a proof starts from
@@ -81,19 +82,19 @@ module _ (sig : Signature) (ins places : List SortId) where
 abbrev asked : List Literal → List Term → Clause
 asked ls ts = record { literals = map negated ls; answer = Some ts }
 
-goal-fits : (sig : Signature) (ins : List SortId) (d : Diagram) → AllByRecursion (λ (s : SortId). s.0 < length sig.sorts) (sorts_in d.outputs) → Fits sig ins (sorts_in d.outputs) (goal d)
+goal-fits : (sig : Signature) (ins : List SortId) (d : Diagram) → AllByRecursion (λ (s : SortId). s.0 < length sig.sorts) (entry_sorts d.outputs) → Fits sig ins (entry_sorts d.outputs) (goal d)
 unfolding goal
-goal-fits sig ins d h = renumbered-fits sig ins (sorts_in d.outputs) (asked d.required (output_terms d))
+goal-fits sig ins d h = renumbered-fits sig ins (entry_sorts d.outputs) (asked d.required (output_terms d))
     (variables-fit sig ins (places_in (variables (asked d.required (output_terms d)))) (length d.objects) d.outputs h)
 
-starts-fit : (t : Theory) (d : Diagram) → WellFormedTheory t → WellFormed t d → StartsFit t.sig (sorts_in d.inputs) (sorts_in d.outputs) (sources t d)
+starts-fit : (t : Theory) (d : Diagram) → WellFormedTheory t → WellFormed t d → StartsFit t.sig (entry_sorts d.inputs) (entry_sorts d.outputs) (sources t d)
 starts-fit t d h k = record {
-  axioms = λ m n c e. axiom-fits t.sig (sorts_in d.inputs) (sorts_in d.outputs) n c (member (formulas_of t) m) e;
-  goal = goal-fits t.sig (sorts_in d.inputs) d (concrete-sorts t h.reps (sorts_in d.outputs) k.outputs_concrete);
-  givens = givens-fit t.sig (sorts_in d.inputs) (sorts_in d.outputs) d;
+  axioms = λ m n c e. axiom-fits t.sig (entry_sorts d.inputs) (entry_sorts d.outputs) n c (member (formulas_of t) m) e;
+  goal = goal-fits t.sig (entry_sorts d.inputs) d (concrete-sorts t h.reps (entry_sorts d.outputs) k.outputs_concrete);
+  givens = givens-fit t.sig (entry_sorts d.inputs) (entry_sorts d.outputs) d;
 }
 
 pub answers-fit : (t : Theory) (d : Diagram) → WellFormedTheory t → WellFormed t d → (rows : List Row) → IsProof t d rows → (n : ℕ) (c : Clause) (ts : List Term) → clause_at rows n ≡ Some c → c.answer ≡ Some ts
-    → fit_places t.sig (sorts_of t.sig (sorts_in d.inputs) ts) (sorts_in d.outputs) ≡ true
-answers-fit t d h k rows s n c ts at is = subst (AnswerFits t.sig (sorts_in d.inputs) (sorts_in d.outputs)) is
-    (steps-fit t.sig (sorts_in d.inputs) (sorts_in d.outputs) (sources t d) (starts-fit t d h k) rows s n c at)
+    → fit_places t.sig (sorts_of t.sig (entry_sorts d.inputs) ts) (entry_sorts d.outputs) ≡ true
+answers-fit t d h k rows s n c ts at is = subst (AnswerFits t.sig (entry_sorts d.inputs) (entry_sorts d.outputs)) is
+    (steps-fit t.sig (entry_sorts d.inputs) (entry_sorts d.outputs) (sources t d) (starts-fit t d h k) rows s n c at)

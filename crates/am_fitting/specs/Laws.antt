@@ -9,12 +9,12 @@ use Rattle.am_theory.specs.declared.theory.Theory.{Theory}
 use Rattle.am_theory.specs.Facts.{WellFormed as WellFormedTheory}
 use Rattle.am_diagram.specs.declared.diagram.Diagram.{Diagram}
 use Rattle.am_diagram.specs.Facts.{WellFormed}
-use Rattle.am_diagram.specs.Listed.{sorts_in}
+use Rattle.am_diagram.specs.Listed.{entry_sorts}
 use Rattle.am_diagram.specs.Steps.{IsProof}
 
 -- one term for each output, each of a sort that fits the output's
 abbrev pub FitOutputs : Theory → Diagram → List Term → Type 0
-FitOutputs t d ts = IsTrue (fit_places t.sig (sorts_of t.sig (sorts_in d.inputs) ts) (sorts_in d.outputs))
+FitOutputs t d ts = IsTrue (fit_places t.sig (sorts_of t.sig (entry_sorts d.inputs) ts) (entry_sorts d.outputs))
 
 -- in a proof over a well-formed theory and diagram the answer of each row, where it has one, fits the outputs
 abbrev pub AnswersFit : Type 0

@@ -13,8 +13,8 @@ use Rattle.am_term.specs.Names.{is_fortran_name, is_fortran_byte, is_upper}
 use mathlib.Core.List.{append_assoc}
 use Rattle.am_fortran.specs.Text.{line, declaration_text, statement_text, head_text, operand_text}
 use Rattle.am_fortran.specs.Well.{is_between, is_type, is_statement, fits_statement, is_operand, fits_operand}
-use Rattle.am_fortran.specs.Words.{step, start, in_words, with_word, words}
-use Rattle.am_fortran.specs.Guess.{read_on, number_of, integer_of, operand_of, assigned, integer_type_of, double_of, declared, guessed}
+use Rattle.am_fortran.specs.Words.{scan_step, scan_start, in_words, with_word, words}
+use Rattle.am_fortran.specs.Guess.{add_digits, small_number, integer_of, operand_of, assigned, integer_type_of, double_of, guessed_declaration, guessed}
 use Rattle.am_fortran.specs.Items.{is_item, item_text}
 use Rattle.am_fortran.specs.declared.item.Item.{Item}
 use Rattle.am_fortran.specs.declared.item.Item.TheVariants.{Head, Declaration, Executable, End}
@@ -30,10 +30,10 @@ use Rattle.am_fortran.proofs.WordsOf.{name_word, decimal_word, operand_word, ope
 
 -- numbers
 
-pub number_again : (n : ℕ) → n < 2 ^ 32 → number_of (decimal n) ≡ n
-unfolding number_of
+pub number_again : (n : ℕ) → n < 2 ^ 32 → small_number (decimal n) ≡ n
+unfolding small_number
 number_again n h =
-    let v : read_on 0 (decimal n) ≡ n = digits_value-decimal own n (omega arith) in
+    let v : add_digits 0 (decimal n) ≡ n = digits_value-decimal own n (omega arith) in
     let d : list_all is_ascii_digit (decimal n) ≡ true = digits_decimal own n (omega arith) in
     rw (d, v, lt-ltb n (2 ^ 32) h) refl
 
@@ -45,14 +45,14 @@ begins_with_digit (b ∷ bs) s h P f = f b bs (and_parts (is_ascii_digit b) (lis
 digit_not : (b c : ℕ) → is_ascii_digit b ≡ true → is_ascii_digit c ≡ false → (b == c) ≡ false
 digit_not b c h k = grind (arith, common_steps, nat_tests)
 
-plain_integer : (ds : List ℕ) (n : ℕ) → n < 2 ^ 63 → 0 < length ds → list_all is_ascii_digit ds ≡ true → read_on 0 ds ≡ n → operand_of ds ≡ operand.Int (pos n)
+plain_integer : (ds : List ℕ) (n : ℕ) → n < 2 ^ 63 → 0 < length ds → list_all is_ascii_digit ds ≡ true → add_digits 0 ds ≡ n → operand_of ds ≡ operand.Int (pos n)
 unfolding operand_of integer_of
 plain_integer [] n h s d v = absurd (omega arith)
 plain_integer (b ∷ bs) n h s d v =
     let p = and_parts (is_ascii_digit b) (list_all is_ascii_digit bs) d in
     rw (digit_not b 39 p.0 refl, p.0, digit_not b 45 p.0 refl) (rw (p.1, v, lt-ltb n (2 ^ 63) h) refl)
 
-minus_integer : (ds : List ℕ) (n : ℕ) → suc n ≤ 2 ^ 63 → list_all is_ascii_digit ds ≡ true → read_on 0 ds ≡ suc n → operand_of (45 ∷ ds) ≡ operand.Int (negsuc n)
+minus_integer : (ds : List ℕ) (n : ℕ) → suc n ≤ 2 ^ 63 → list_all is_ascii_digit ds ≡ true → add_digits 0 ds ≡ suc n → operand_of (45 ∷ ds) ≡ operand.Int (negsuc n)
 unfolding operand_of integer_of
 minus_integer ds n h d v = rw (d, v, le-leb (suc n) (2 ^ 63) h) refl
 
@@ -94,8 +94,8 @@ decimal_not n c h k = begins_with_digit (decimal n) (decimal_nonempty n h) (digi
 
 -- runs
 
-opens : (done : List (List ℕ)) (w : List ℕ) → 0 < length w → fold step (in_word done w) (codes "(") ≡ between (done ++ w ∷ [] ++ codes "(" ∷ [])
-unfolding step in_words
+opens : (done : List (List ℕ)) (w : List ℕ) → 0 < length w → fold scan_step (in_word done w) (codes "(") ≡ between (done ++ w ∷ [] ++ codes "(" ∷ [])
+unfolding scan_step in_words
 opens done [] h = absurd (omega arith)
 opens done (b ∷ bs) h = refl
 
@@ -104,98 +104,98 @@ some_word done [] h = absurd (omega arith)
 some_word done (b ∷ bs) h = refl
 
 -- first words that end with a blank, a name and a parenthesis
-run_opening : (lead : List ℕ) (ws : List (List ℕ)) (n : List ℕ) → fold step start lead ≡ between ws → IsWord n n → fold step start (lead ++ n ++ codes "(") ≡ between (ws ++ n ∷ [] ++ codes "(" ∷ [])
-run_opening lead ws n p w = run_both start (in_word ws n) _ (lead ++ n) (codes "(") (run_both start (between ws) (in_word ws n) lead n p (w.run ws)) (opens ws n w.some)
+run_opening : (lead : List ℕ) (ws : List (List ℕ)) (n : List ℕ) → fold scan_step scan_start lead ≡ between ws → IsWord n n → fold scan_step scan_start (lead ++ n ++ codes "(") ≡ between (ws ++ n ∷ [] ++ codes "(" ∷ [])
+run_opening lead ws n p w = run_both scan_start (in_word ws n) _ (lead ++ n) (codes "(") (run_both scan_start (between ws) (in_word ws n) lead n p (w.run ws)) (opens ws n w.some)
 
-lead_head : fold step start (codes "SUBROUTINE ") ≡ between (codes "SUBROUTINE" ∷ [])
-unfolding step in_words
+lead_head : fold scan_step scan_start (codes "SUBROUTINE ") ≡ between (codes "SUBROUTINE" ∷ [])
+unfolding scan_step in_words
 lead_head = refl
 
-lead_call : fold step start (codes "CALL ") ≡ between (codes "CALL" ∷ [])
-unfolding step in_words
+lead_call : fold scan_step scan_start (codes "CALL ") ≡ between (codes "CALL" ∷ [])
+unfolding scan_step in_words
 lead_call = refl
 
-equals : (done : List (List ℕ)) (w : List ℕ) → 0 < length w → fold step (in_word done w) (codes " = ") ≡ between (done ++ w ∷ [] ++ codes "=" ∷ [])
-unfolding step in_words
+equals : (done : List (List ℕ)) (w : List ℕ) → 0 < length w → fold scan_step (in_word done w) (codes " = ") ≡ between (done ++ w ∷ [] ++ codes "=" ∷ [])
+unfolding scan_step in_words
 equals done [] h = absurd (omega arith)
 equals done (b ∷ bs) h = refl
 
-run_target : (t : List ℕ) → is_fortran_name t ≡ true → fold step start (t ++ codes " = ") ≡ between (t ∷ codes "=" ∷ [])
-run_target t h = let w = name_word t h in run_both start (in_word [] t) _ t (codes " = ") (w.run []) (equals [] t w.some)
+run_target : (t : List ℕ) → is_fortran_name t ≡ true → fold scan_step scan_start (t ++ codes " = ") ≡ between (t ∷ codes "=" ∷ [])
+run_target t h = let w = name_word t h in run_both scan_start (in_word [] t) _ t (codes " = ") (w.run []) (equals [] t w.some)
 
 pub words_end : words (line (codes "END")) ≡ codes "END" ∷ []
-unfolding words line step in_words
+unfolding words line scan_step in_words
 words_end = refl
 
 -- declarations
 
-run_name : (lead : List ℕ) (ws : List (List ℕ)) (n : List ℕ) → fold step start lead ≡ between ws → is_fortran_name n ≡ true → fold step start (lead ++ n) ≡ in_word ws n
-run_name lead ws n p h = run_both start (between ws) (in_word ws n) lead n p ((name_word n h).run ws)
+run_name : (lead : List ℕ) (ws : List (List ℕ)) (n : List ℕ) → fold scan_step scan_start lead ≡ between ws → is_fortran_name n ≡ true → fold scan_step scan_start (lead ++ n) ≡ in_word ws n
+run_name lead ws n p h = run_both scan_start (between ws) (in_word ws n) lead n p ((name_word n h).run ws)
 
 gap_close : IsGap (codes ")")
-unfolding step in_words
+unfolding scan_step in_words
 gap_close = λ done w. refl
 
 gap_comma : IsGap (codes ",")
-unfolding step in_words
+unfolding scan_step in_words
 gap_comma = λ done w. refl
 
 gap_blank : IsGap (codes " ")
-unfolding step in_words
+unfolding scan_step in_words
 gap_blank = λ done w. refl
 
 -- a number that something ends
-run_number : (done : List (List ℕ)) (m : ℕ) (end : List ℕ) → m < 2 ^ 64 → IsGap end → fold step (between done) (decimal m ++ end) ≡ between (done ++ decimal m ∷ [])
+run_number : (done : List (List ℕ)) (m : ℕ) (end : List ℕ) → m < 2 ^ 64 → IsGap end → fold scan_step (between done) (decimal m ++ end) ≡ between (done ++ decimal m ∷ [])
 run_number done m end h g = let w = decimal_word m h in
     run_both (between done) (in_word done (decimal m)) _ (decimal m) end (w.run done) (g done (decimal m)) ∙ ap between (some_word done (decimal m) w.some)
 
 -- behind a name, one extent and two
 run_vector : (ws : List (List ℕ)) (n : List ℕ) (m : ℕ) → is_fortran_name n ≡ true → m < 2 ^ 64
-    → fold step (in_word ws n) (codes "(" ++ decimal m ++ codes ")") ≡ between (ws ++ n ∷ [] ++ codes "(" ∷ [] ++ decimal m ∷ [])
+    → fold scan_step (in_word ws n) (codes "(" ++ decimal m ++ codes ")") ≡ between (ws ++ n ∷ [] ++ codes "(" ∷ [] ++ decimal m ∷ [])
 run_vector ws n m h k = let w = name_word n h in
-    ap (fold step (in_word ws n)) (append_assoc (codes "(") (decimal m) (codes ")"))
+    ap (fold scan_step (in_word ws n)) (append_assoc (codes "(") (decimal m) (codes ")"))
     ∙ run_both (in_word ws n) (between (ws ++ n ∷ [] ++ codes "(" ∷ [])) _ (codes "(") (decimal m ++ codes ")") (opens ws n w.some) (run_number _ m (codes ")") k gap_close)
 
 matrix_regroup : (o r c s e : List ℕ) → o ++ r ++ c ++ s ++ e ≡ o ++ ((r ++ c) ++ (s ++ e))
 matrix_regroup o r c s e = simp append_assoc
 
 run_matrix : (ws : List (List ℕ)) (n : List ℕ) (m k : ℕ) → is_fortran_name n ≡ true → m < 2 ^ 64 → k < 2 ^ 64
-    → fold step (in_word ws n) (codes "(" ++ decimal m ++ codes "," ++ decimal k ++ codes ")") ≡ between (ws ++ n ∷ [] ++ codes "(" ∷ [] ++ decimal m ∷ [] ++ decimal k ∷ [])
+    → fold scan_step (in_word ws n) (codes "(" ++ decimal m ++ codes "," ++ decimal k ++ codes ")") ≡ between (ws ++ n ∷ [] ++ codes "(" ∷ [] ++ decimal m ∷ [] ++ decimal k ∷ [])
 run_matrix ws n m k h p q = let w = name_word n h in
-    ap (fold step (in_word ws n)) (matrix_regroup (codes "(") (decimal m) (codes ",") (decimal k) (codes ")"))
+    ap (fold scan_step (in_word ws n)) (matrix_regroup (codes "(") (decimal m) (codes ",") (decimal k) (codes ")"))
     ∙ run_both (in_word ws n) (between (ws ++ n ∷ [] ++ codes "(" ∷ [])) _ (codes "(") ((decimal m ++ codes ",") ++ (decimal k ++ codes ")")) (opens ws n w.some)
     (run_both _ (between (ws ++ n ∷ [] ++ codes "(" ∷ [] ++ decimal m ∷ [])) _ (decimal m ++ codes ",") (decimal k ++ codes ")") (run_number _ m (codes ",") p gap_comma) (run_number _ k (codes ")") q gap_close))
 
-lead_double : fold step start (codes "DOUBLE PRECISION ") ≡ between (codes "DOUBLE" ∷ codes "PRECISION" ∷ [])
-unfolding step in_words
+lead_double : fold scan_step scan_start (codes "DOUBLE PRECISION ") ≡ between (codes "DOUBLE" ∷ codes "PRECISION" ∷ [])
+unfolding scan_step in_words
 lead_double = refl
 
-lead_integer : fold step start (codes "INTEGER ") ≡ between (codes "INTEGER" ∷ [])
-unfolding step in_words
+lead_integer : fold scan_step scan_start (codes "INTEGER ") ≡ between (codes "INTEGER" ∷ [])
+unfolding scan_step in_words
 lead_integer = refl
 
-lead_logical : fold step start (codes "LOGICAL ") ≡ between (codes "LOGICAL" ∷ [])
-unfolding step in_words
+lead_logical : fold scan_step scan_start (codes "LOGICAL ") ≡ between (codes "LOGICAL" ∷ [])
+unfolding scan_step in_words
 lead_logical = refl
 
-lead_any : fold step start (codes "CHARACTER*(*) ") ≡ between (codes "CHARACTER" ∷ codes "(" ∷ [])
-unfolding step in_words
+lead_any : fold scan_step scan_start (codes "CHARACTER*(*) ") ≡ between (codes "CHARACTER" ∷ codes "(" ∷ [])
+unfolding scan_step in_words
 lead_any = refl
 
-lead_character : fold step start (codes "CHARACTER*") ≡ between (codes "CHARACTER" ∷ [])
-unfolding step in_words
+lead_character : fold scan_step scan_start (codes "CHARACTER*") ≡ between (codes "CHARACTER" ∷ [])
+unfolding scan_step in_words
 lead_character = refl
 
-lead_length : (m : ℕ) → m < 2 ^ 64 → fold step start (codes "CHARACTER*" ++ decimal m ++ codes " ") ≡ between (codes "CHARACTER" ∷ decimal m ∷ [])
-lead_length m h = ap (fold step start) (append_assoc (codes "CHARACTER*") (decimal m) (codes " "))
-    ∙ run_both start (between (codes "CHARACTER" ∷ [])) _ (codes "CHARACTER*") (decimal m ++ codes " ") lead_character (run_number _ m (codes " ") h gap_blank)
+lead_length : (m : ℕ) → m < 2 ^ 64 → fold scan_step scan_start (codes "CHARACTER*" ++ decimal m ++ codes " ") ≡ between (codes "CHARACTER" ∷ decimal m ∷ [])
+lead_length m h = ap (fold scan_step scan_start) (append_assoc (codes "CHARACTER*") (decimal m) (codes " "))
+    ∙ run_both scan_start (between (codes "CHARACTER" ∷ [])) _ (codes "CHARACTER*") (decimal m ++ codes " ") lead_character (run_number _ m (codes " ") h gap_blank)
 
 -- the words of a declaration whose lead, name and extents are read so
-declaration_line : (lead n extents : List ℕ) (ws : List (List ℕ)) (done : List (List ℕ)) (w : List ℕ) → fold step start lead ≡ between ws → is_fortran_name n ≡ true → fold step (in_word ws n) extents ≡ in_word done w
+declaration_line : (lead n extents : List ℕ) (ws : List (List ℕ)) (done : List (List ℕ)) (w : List ℕ) → fold scan_step scan_start lead ≡ between ws → is_fortran_name n ≡ true → fold scan_step (in_word ws n) extents ≡ in_word done w
     → words (line (lead ++ n ++ extents)) ≡ with_word done w
-declaration_line lead n extents ws done w p h e = run_line (lead ++ n ++ extents) done w (run_both start (in_word ws n) (in_word done w) (lead ++ n) extents (run_name lead ws n p h) e)
+declaration_line lead n extents ws done w p h e = run_line (lead ++ n ++ extents) done w (run_both scan_start (in_word ws n) (in_word done w) (lead ++ n) extents (run_name lead ws n p h) e)
 
-declaration_plain : (lead n : List ℕ) (ws : List (List ℕ)) → fold step start lead ≡ between ws → is_fortran_name n ≡ true → words (line (lead ++ n ++ [])) ≡ ws ++ n ∷ []
+declaration_plain : (lead n : List ℕ) (ws : List (List ℕ)) → fold scan_step scan_start lead ≡ between ws → is_fortran_name n ≡ true → words (line (lead ++ n ++ [])) ≡ ws ++ n ∷ []
 declaration_plain lead n ws p h = declaration_line lead n [] ws ws n p h refl ∙ some_word ws n (name_word n h).some
 
 abbrev Again : Item → Type 0
@@ -208,7 +208,7 @@ small : (most n : ℕ) → most < 2 ^ 32 → is_between 1 most n ≡ true → n 
 small most n k h = omega (arith, between_high 1 most n h)
 
 type_again : (ty : FortranType) (n : List ℕ) → is_type ty ≡ true → is_fortran_name n ≡ true → Again (Declaration (record { ty = ty; name = n }))
-unfolding item_text declaration_text guessed declared double_of integer_type_of
+unfolding item_text declaration_text guessed guessed_declaration double_of integer_type_of
 type_again Double n t h = ap guessed (declaration_plain (codes "DOUBLE PRECISION ") n _ lead_double h)
 type_again Integer n t h = ap guessed (declaration_plain (codes "INTEGER ") n _ lead_integer h) ∙ rw (name_not n 61 h refl) refl
 type_again Logical n t h = ap guessed (declaration_plain (codes "LOGICAL ") n _ lead_logical h) ∙ rw (name_not n 61 h refl) refl
@@ -239,7 +239,7 @@ unfolding item_text statement_text guessed assigned
 assign_again t o h k f =
     let w = operand_is_word o k f in
     ap guessed (run_line (t ++ codes " = " ++ operand_text o) (t ∷ codes "=" ∷ []) (operand_word o)
-    (run_both start (between (t ∷ codes "=" ∷ [])) _ (t ++ codes " = ") (operand_text o) (run_target t h) (w.run _))
+    (run_both scan_start (between (t ∷ codes "=" ∷ [])) _ (t ++ codes " = ") (operand_text o) (run_target t h) (w.run _))
     ∙ some_word _ (operand_word o) w.some)
     ∙ rw (operand_again o k f) refl
 

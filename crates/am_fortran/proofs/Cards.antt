@@ -6,7 +6,7 @@ use Rattle.std.proofs.lemmas.Bool.{and_parts}
 use Rattle.std.proofs.lemmas.List.{length-map}
 use Rattle.am_fortran.specs.Columns.{KeepsColumns, FitsCard}
 use Rattle.am_fortran.specs.Items.{is_item, item_text}
-use Rattle.am_fortran.specs.Lines.{Line, lines, groups}
+use Rattle.am_fortran.specs.Lines.{Line, lines_of, groups}
 use Rattle.am_fortran.specs.Text.{unit_text}
 use Rattle.am_fortran.specs.Units.{IsUnit, unit_items}
 use Rattle.am_fortran.specs.declared.item.Item.{Item}
@@ -35,19 +35,19 @@ rows_keep : (ls : List (List ℕ)) → Rows ls → AllByRecursion KeepsColumns (
 rows_keep [] r = tt
 rows_keep (l ∷ ls) r = (row_keeps l r.0, rows_keep ls r.1)
 
-group_keeps : (t : List ℕ) → IsStatement t → AllByRecursion KeepsColumns (lines t)
+group_keeps : (t : List ℕ) → IsStatement t → AllByRecursion KeepsColumns (lines_of t)
 group_keeps t s = subst (λ (ls : List Line). AllByRecursion KeepsColumns ls) (sym (statement_lines t s)) (rows_keep (s.first ∷ s.more) (s.row, s.rows))
 
-items_keep : (is : List Item) → list_all is_item is ≡ true → AllByRecursion KeepsColumns (lines (flat_map item_text is))
-unfolding lines
+items_keep : (is : List Item) → list_all is_item is ≡ true → AllByRecursion KeepsColumns (lines_of (flat_map item_text is))
+unfolding lines_of
 items_keep [] h = tt
 items_keep (i ∷ is) h =
     let p = and_parts (is_item i) (list_all is_item is) h in
     let s = item_statement i p.0 in
     subst (λ (ls : List Line). AllByRecursion KeepsColumns ls) (sym (statement_split (item_text i) (flat_map item_text is) s))
-    (all_append KeepsColumns (lines (item_text i)) (lines (flat_map item_text is)) (group_keeps (item_text i) s) (items_keep is p.1))
+    (all_append KeepsColumns (lines_of (item_text i)) (lines_of (flat_map item_text is)) (group_keeps (item_text i) s) (items_keep is p.1))
 
-group_short : (t : List ℕ) → IsStatement t → length (lines t) ≤ 18 + 1
+group_short : (t : List ℕ) → IsStatement t → length (lines_of t) ≤ 18 + 1
 group_short t s = rw (statement_lines t s, length-map (s.first ∷ s.more) whole) (omega (arith, s.few))
 
 items_short : (is : List Item) → list_all is_item is ≡ true → AllByRecursion (λ (g : List Line). length g ≤ 18 + 1) (map item_group is)
@@ -58,7 +58,7 @@ items_short (i ∷ is) h =
 
 pub fits_card : (u : Subroutine) → IsUnit u → FitsCard u
 fits_card u h = record {
-  columns = all_at KeepsColumns (lines (unit_text u)) (subst (λ (t : List ℕ). AllByRecursion KeepsColumns (lines t)) (sym (unit_items_text u)) (items_keep (unit_items u) (unit_items_well u h)));
-  continuations = all_at (λ (g : List Line). length g ≤ 18 + 1) (groups (lines (unit_text u)))
+  columns = all_at KeepsColumns (lines_of (unit_text u)) (subst (λ (t : List ℕ). AllByRecursion KeepsColumns (lines_of t)) (sym (unit_items_text u)) (items_keep (unit_items u) (unit_items_well u h)));
+  continuations = all_at (λ (g : List Line). length g ≤ 18 + 1) (groups (lines_of (unit_text u)))
       (subst (λ (gs : List (List Line)). AllByRecursion (λ (g : List Line). length g ≤ 18 + 1) gs) (sym (unit_groups u h)) (items_short (unit_items u) (unit_items_well u h)));
 }

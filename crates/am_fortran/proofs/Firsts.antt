@@ -7,7 +7,7 @@ use Rattle.std.proofs.lemmas.List.{length-map}
 use Rattle.std.proofs.lemmas.List.Folds.{list_any-append}
 use Rattle.am_fortran.specs.Items.{is_item, item_text, Spells, is_end, is_past_declarations}
 use Rattle.am_fortran.specs.Lines.{Line, group_text, is_whole, first_line}
-use Rattle.am_fortran.specs.Drafts.{draft_items, is_none, is_head, is_out, SpellsNone}
+use Rattle.am_fortran.specs.Drafts.{draft_items, no_statements, is_head, is_out, SpellsNone}
 use Rattle.am_fortran.specs.Faults.{group_at, StandsBefore, IsMisplaced, Holds, rank, IsFirst}
 use Rattle.am_fortran.specs.declared.draft.Draft.{Draft}
 use Rattle.am_fortran.specs.declared.fault.UnitKind.{UnitKind}
@@ -323,11 +323,11 @@ pub ended_any : (sort : Item → Bool) (d : Draft) → sort End ≡ true → d.e
 unfolding draft_items
 ended_any sort d s h = rw h (any_right sort (Head d.name d.dummies ∷ map Declaration d.declarations ++ map Executable d.statements) (End ∷ []) (rw s refl))
 
-some_past : (ss : List Statement) → is_none ss ≡ false → list_any is_past_declarations (map Executable ss) ≡ true
+some_past : (ss : List Statement) → no_statements ss ≡ false → list_any is_past_declarations (map Executable ss) ≡ true
 some_past [] h = absurd cc
 some_past (s ∷ ss) h = refl
 
-past_any : (d : Draft) → is_none d.statements ≡ false → list_any is_past_declarations (draft_items d) ≡ true
+past_any : (d : Draft) → no_statements d.statements ≡ false → list_any is_past_declarations (draft_items d) ≡ true
 unfolding draft_items
 past_any d h =
     let front = Head d.name d.dummies ∷ map Declaration d.declarations in
@@ -348,9 +348,9 @@ some_items d = omega arith
 
 pub out_misplaced : (d : Draft) (more : List (List Line)) (i : Item) → list_all is_item (draft_items d) ≡ true → is_out d i ≡ true → IsMisplaced (map item_group (draft_items d) ++ more) (length (draft_items d)) i
 out_misplaced d more (Head n ds) k h = some_items d
-out_misplaced d more (Declaration x) k h = elim (or_cases d.ended (not (is_none d.statements)) h) [
+out_misplaced d more (Declaration x) k h = elim (or_cases d.ended (not (no_statements d.statements)) h) [
   | inl e ↦ inr (stands (draft_items d) more is_past_declarations k (ended_any is_past_declarations d refl e))
-  | inr n ↦ inr (stands (draft_items d) more is_past_declarations k (past_any d (not-true (is_none d.statements) n)))
+  | inr n ↦ inr (stands (draft_items d) more is_past_declarations k (past_any d (not-true (no_statements d.statements) n)))
 ]
 out_misplaced d more (Executable s) k h = inr (stands (draft_items d) more is_end k (ended_any is_end d refl h))
 out_misplaced d more End k h = inr (stands (draft_items d) more is_end k (ended_any is_end d refl h))

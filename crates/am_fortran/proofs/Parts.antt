@@ -11,7 +11,7 @@ use Rattle.am_term.specs.Names.{is_fortran_name}
 use Rattle.am_fortran.specs.Text.{line, declaration_text, statement_text, head_text, unit_text}
 use Rattle.am_fortran.specs.Well.{is_declaration, is_statement, fits_statement}
 use Rattle.am_fortran.specs.Items.{is_item, item_text}
-use Rattle.am_fortran.specs.Lines.{Line, lines, goes_on, groups, group_text}
+use Rattle.am_fortran.specs.Lines.{Line, lines_of, goes_on, groups, group_text}
 use Rattle.am_fortran.specs.Units.{IsUnit, unit_items}
 use Rattle.am_fortran.specs.declared.item.Item.{Item}
 use Rattle.am_fortran.specs.declared.item.Item.TheVariants.{Head, Declaration, Executable, End}
@@ -22,48 +22,48 @@ use Rattle.am_fortran.proofs.Again.{item_injective}
 use Rattle.am_fortran.proofs.Grouping.{whole, lines_over, group_first, text_lines}
 use Rattle.am_fortran.proofs.Rows.{Rows, made, IsStatement, item_statement}
 
-lines_made : (ls : List (List ℕ)) → Rows ls → (rest : List ℕ) → lines (made ls ++ rest) ≡ map whole ls ++ lines rest
+lines_made : (ls : List (List ℕ)) → Rows ls → (rest : List ℕ) → lines_of (made ls ++ rest) ≡ map whole ls ++ lines_of rest
 lines_made [] r rest = refl
 lines_made (l ∷ ls) r rest =
-    ap lines (append_assoc (l ++ 10 ∷ []) (made ls) rest ∙ append_assoc l (10 ∷ []) (made ls ++ rest))
+    ap lines_of (append_assoc (l ++ 10 ∷ []) (made ls) rest ∙ append_assoc l (10 ∷ []) (made ls ++ rest))
     ∙ lines_over l (made ls ++ rest) r.0.inside
     ∙ ap (λ (z : List Line). whole l ∷ z) (lines_made ls r.1 rest)
 
-pub statement_lines : (t : List ℕ) (s : IsStatement t) → lines t ≡ map whole (s.first ∷ s.more)
-unfolding lines
-statement_lines t s = ap lines (s.is ∙ sym (append-nil (made (s.first ∷ s.more)))) ∙ lines_made (s.first ∷ s.more) (s.row, s.rows) [] ∙ append-nil (map whole (s.first ∷ s.more))
+pub statement_lines : (t : List ℕ) (s : IsStatement t) → lines_of t ≡ map whole (s.first ∷ s.more)
+unfolding lines_of
+statement_lines t s = ap lines_of (s.is ∙ sym (append-nil (made (s.first ∷ s.more)))) ∙ lines_made (s.first ∷ s.more) (s.row, s.rows) [] ∙ append-nil (map whole (s.first ∷ s.more))
 
-more_lines : (t rest : List ℕ) (s : IsStatement t) → lines (t ++ rest) ≡ map whole (s.first ∷ s.more) ++ lines rest
-more_lines t rest s = ap (λ (z : List ℕ). lines (z ++ rest)) s.is ∙ lines_made (s.first ∷ s.more) (s.row, s.rows) rest
+more_lines : (t rest : List ℕ) (s : IsStatement t) → lines_of (t ++ rest) ≡ map whole (s.first ∷ s.more) ++ lines_of rest
+more_lines t rest s = ap (λ (z : List ℕ). lines_of (z ++ rest)) s.is ∙ lines_made (s.first ∷ s.more) (s.row, s.rows) rest
 
-pub statement_split : (t rest : List ℕ) → IsStatement t → lines (t ++ rest) ≡ lines t ++ lines rest
-statement_split t rest s = more_lines t rest s ∙ ap (λ (z : List Line). z ++ lines rest) (sym (statement_lines t s))
+pub statement_split : (t rest : List ℕ) → IsStatement t → lines_of (t ++ rest) ≡ lines_of t ++ lines_of rest
+statement_split t rest s = more_lines t rest s ∙ ap (λ (z : List Line). z ++ lines_of rest) (sym (statement_lines t s))
 
-begins_group : (t rest : List ℕ) → IsStatement t → goes_on (lines (t ++ rest)) ≡ false
+begins_group : (t rest : List ℕ) → IsStatement t → goes_on (lines_of (t ++ rest)) ≡ false
 begins_group t rest s = ap goes_on (more_lines t rest s) ∙ s.begins
 
-pub statement_group : (t rest : List ℕ) → IsStatement t → goes_on (lines rest) ≡ false → groups (lines (t ++ rest)) ≡ lines t ∷ groups (lines rest)
+pub statement_group : (t rest : List ℕ) → IsStatement t → goes_on (lines_of rest) ≡ false → groups (lines_of (t ++ rest)) ≡ lines_of t ∷ groups (lines_of rest)
 statement_group t rest s g =
     ap groups (more_lines t rest s)
-    ∙ group_first (map whole (s.first ∷ s.more)) (lines rest) s.goes g
-    ∙ ap (λ (z : List Line). z ∷ groups (lines rest)) (sym (statement_lines t s))
+    ∙ group_first (map whole (s.first ∷ s.more)) (lines_of rest) s.goes g
+    ∙ ap (λ (z : List Line). z ∷ groups (lines_of rest)) (sym (statement_lines t s))
 
 -- the group of an item
 abbrev pub item_group : Item → List Line
-item_group i = lines (item_text i)
+item_group i = lines_of (item_text i)
 
-pub items_begin : (is : List Item) (rest : List ℕ) → list_all is_item is ≡ true → goes_on (lines rest) ≡ false → goes_on (lines (flat_map item_text is ++ rest)) ≡ false
+pub items_begin : (is : List Item) (rest : List ℕ) → list_all is_item is ≡ true → goes_on (lines_of rest) ≡ false → goes_on (lines_of (flat_map item_text is ++ rest)) ≡ false
 items_begin [] rest h g = g
 items_begin (i ∷ is) rest h g =
     let p = and_parts (is_item i) (list_all is_item is) h in
-    ap (λ (z : List ℕ). goes_on (lines z)) (append_assoc (item_text i) (flat_map item_text is) rest)
+    ap (λ (z : List ℕ). goes_on (lines_of z)) (append_assoc (item_text i) (flat_map item_text is) rest)
     ∙ begins_group (item_text i) (flat_map item_text is ++ rest) (item_statement i p.0)
 
-pub items_groups : (is : List Item) (rest : List ℕ) → list_all is_item is ≡ true → goes_on (lines rest) ≡ false → groups (lines (flat_map item_text is ++ rest)) ≡ map item_group is ++ groups (lines rest)
+pub items_groups : (is : List Item) (rest : List ℕ) → list_all is_item is ≡ true → goes_on (lines_of rest) ≡ false → groups (lines_of (flat_map item_text is ++ rest)) ≡ map item_group is ++ groups (lines_of rest)
 items_groups [] rest h g = refl
 items_groups (i ∷ is) rest h g =
     let p = and_parts (is_item i) (list_all is_item is) h in
-    ap (λ (z : List ℕ). groups (lines z)) (append_assoc (item_text i) (flat_map item_text is) rest)
+    ap (λ (z : List ℕ). groups (lines_of z)) (append_assoc (item_text i) (flat_map item_text is) rest)
     ∙ statement_group (item_text i) (flat_map item_text is ++ rest) (item_statement i p.0) (items_begin is rest p.1 g)
     ∙ ap (λ (z : List (List Line)). item_group i ∷ z) (items_groups is rest p.1 g)
 
@@ -104,10 +104,10 @@ unit_items_well u h =
     ∙ ap (λ (z : Bool). z && true) (list_all-append is_item front (map Executable u.statements))
     ∙ rw (head, middle, back) refl
 
-pub unit_groups : (u : Subroutine) → IsUnit u → groups (lines (unit_text u)) ≡ map item_group (unit_items u)
-unfolding lines groups
+pub unit_groups : (u : Subroutine) → IsUnit u → groups (lines_of (unit_text u)) ≡ map item_group (unit_items u)
+unfolding lines_of groups
 unit_groups u h =
-    ap (λ (z : List ℕ). groups (lines z)) (unit_items_text u ∙ sym (append-nil (flat_map item_text (unit_items u))))
+    ap (λ (z : List ℕ). groups (lines_of z)) (unit_items_text u ∙ sym (append-nil (flat_map item_text (unit_items u))))
     ∙ items_groups (unit_items u) [] (unit_items_well u h) refl
     ∙ append-nil (map item_group (unit_items u))
 
@@ -200,4 +200,4 @@ items_tell u v e =
 pub unit_injective : (u v : Subroutine) → IsUnit u → IsUnit v → unit_text u ≡ unit_text v → u ≡ v
 unit_injective u v h k e =
     items_tell u v (groups_injective (unit_items u) (unit_items v) (unit_items_well u h) (unit_items_well v k)
-    (sym (unit_groups u h) ∙ ap (λ (t : List ℕ). groups (lines t)) e ∙ unit_groups v k))
+    (sym (unit_groups u h) ∙ ap (λ (t : List ℕ). groups (lines_of t)) e ∙ unit_groups v k))

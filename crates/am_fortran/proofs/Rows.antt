@@ -13,8 +13,8 @@ use Rattle.std.proofs.lemmas.Fmt.{digits_decimal, length-decimal-le}
 use Rattle.std.proofs.lemmas.List.{length-map}
 use mathlib.Core.List.{append-nil}
 use Rattle.am_term.specs.Names.{is_fortran_name, is_fortran_byte, is_upper}
-use Rattle.am_fortran.specs.Text.{line, listed, continued, with_list, type_text, extents_text, declaration_text, statement_text, head_text, operand_text}
-use Rattle.am_fortran.specs.Well.{is_between, is_text_byte, is_type, is_declaration, is_statement, fits_statement, is_operand, fits_operand}
+use Rattle.am_fortran.specs.Text.{line, with_commas, continued, with_list, type_text, extents_text, declaration_text, statement_text, head_text, operand_text}
+use Rattle.am_fortran.specs.Well.{is_between, is_unit_text_byte, is_type, is_declaration, is_statement, fits_statement, is_operand, fits_operand}
 use Rattle.am_fortran.specs.Items.{is_item, item_text}
 use Rattle.am_fortran.specs.Lines.{is_continuation}
 use Rattle.am_fortran.specs.declared.item.Item.{Item}
@@ -59,7 +59,7 @@ upper_inside b h = inside_from b (grind (arith, common_steps, nat_tests))
 digit_inside : (b : ℕ) → is_ascii_digit b ≡ true → is_inside b ≡ true
 digit_inside b h = inside_from b (grind (arith, common_steps, nat_tests))
 
-text_inside : (b : ℕ) → is_text_byte b ≡ true → is_inside b ≡ true
+text_inside : (b : ℕ) → is_unit_text_byte b ≡ true → is_inside b ≡ true
 text_inside b h =
     let p = and_parts (is_between 32 126 b) (not (b == 34) && not (b == 39)) h in
     let q = and_parts (nat_le 32 b) (nat_le b 126) p.0 in
@@ -93,12 +93,12 @@ operand_piece (operand.Int (negsuc n)) h f =
     let p = decimal_piece 19 (suc n) (omega arith) (omega arith) (omega arith) in
     record { inside = p.inside; short = omega (arith, p.short) }
 operand_piece (operand.Text t) h f =
-    let p = and_parts (list_all is_text_byte t) (is_between 1 32 (length t)) h in
+    let p = and_parts (list_all is_unit_text_byte t) (is_between 1 32 (length t)) h in
     let q = and_parts (nat_le 1 (length t)) (nat_le (length t) 32) p.1 in
     let most = leb-true (length t) 32 q.1 in
     let added = length-append t (39 ∷ []) in
     record {
-      inside = inside_both t (39 ∷ []) (weaker is_text_byte is_inside text_inside t p.0) refl;
+      inside = inside_both t (39 ∷ []) (weaker is_unit_text_byte is_inside text_inside t p.0) refl;
       short = omega (arith, most, added);
     }
 
@@ -216,22 +216,22 @@ many_lines front xs p u k = record {
   few = omega (arith, length_lines xs);
 }
 
-listed_inside : (xs : List (List ℕ)) → Pieces 34 xs → list_all is_inside (listed xs) ≡ true
-unfolding listed
+listed_inside : (xs : List (List ℕ)) → Pieces 34 xs → list_all is_inside (with_commas xs) ≡ true
+unfolding with_commas
 listed_inside [] p = refl
 listed_inside (x ∷ []) p = p.0.inside
-listed_inside (x ∷ y ∷ ys) p = inside_both (x ++ codes ", ") (listed (y ∷ ys)) (inside_both x (codes ", ") p.0.inside refl) (listed_inside (y ∷ ys) p.1)
+listed_inside (x ∷ y ∷ ys) p = inside_both (x ++ codes ", ") (with_commas (y ∷ ys)) (inside_both x (codes ", ") p.0.inside refl) (listed_inside (y ∷ ys) p.1)
 
-by_length : (t : Bool) (front : List ℕ) (xs : List (List ℕ)) → nat_le (6 + length (front ++ listed xs ++ codes ")")) 72 ≡ t → Piece 66 front → Pieces 34 xs → length xs ≤ 18
-    → IsStatement (if t then line (front ++ listed xs ++ codes ")") else line front ++ continued xs)
+by_length : (t : Bool) (front : List ℕ) (xs : List (List ℕ)) → nat_le (6 + length (front ++ with_commas xs ++ codes ")")) 72 ≡ t → Piece 66 front → Pieces 34 xs → length xs ≤ 18
+    → IsStatement (if t then line (front ++ with_commas xs ++ codes ")") else line front ++ continued xs)
 by_length true front xs e p u k =
-    let s = leb-true (6 + length (front ++ listed xs ++ codes ")")) 72 e in
-    one_line (front ++ listed xs ++ codes ")") (inside_both (front ++ listed xs) (codes ")") (inside_both front (listed xs) p.inside (listed_inside xs u)) refl) (omega (arith, s))
+    let s = leb-true (6 + length (front ++ with_commas xs ++ codes ")")) 72 e in
+    one_line (front ++ with_commas xs ++ codes ")") (inside_both (front ++ with_commas xs) (codes ")") (inside_both front (with_commas xs) p.inside (listed_inside xs u)) refl) (omega (arith, s))
 by_length false front xs e p u k = many_lines front xs p u k
 
 pub with_list_statement : (front : List ℕ) (xs : List (List ℕ)) → Piece 66 front → Pieces 34 xs → length xs ≤ 18 → IsStatement (with_list front xs)
 unfolding with_list
-with_list_statement front xs p u k = by_length (nat_le (6 + length (front ++ listed xs ++ codes ")")) 72) front xs refl p u k
+with_list_statement front xs p u k = by_length (nat_le (6 + length (front ++ with_commas xs ++ codes ")")) 72) front xs refl p u k
 
 wider : (m n : ℕ) (x : List ℕ) → m ≤ n → Piece m x → Piece n x
 wider m n x h p = record { inside = p.inside; short = omega (arith, p.short) }

@@ -1,7 +1,7 @@
 -- The laws of the text of units: it is one unit's alone, and it keeps the columns of the fixed form.
 use Rattle.std.specs.Prelude.{◌≡◌, ◌≤◌, ◌+◌, List, Some, true, length, slice_get}
 use Rattle.std.specs.List.{All}
-use Rattle.am_fortran.specs.Lines.{Line, lines, groups}
+use Rattle.am_fortran.specs.Lines.{Line, lines_of, groups}
 use Rattle.am_fortran.specs.Text.{unit_text}
 use Rattle.am_fortran.specs.Units.{IsUnit}
 use Rattle.am_fortran.specs.declared.unit.Unit.{Unit as Subroutine}
@@ -18,8 +18,8 @@ pub record KeepsColumns (l : Line) : Type 0 where
 
 -- each line of a unit's text does so, and no statement has more than 18 continuation lines
 pub record FitsCard (u : Subroutine) : Type 0 where
-  pub columns : All KeepsColumns (lines (unit_text u))
-  pub continuations : All (λ (g : List Line). length g ≤ 18 + 1) (groups (lines (unit_text u)))
+  pub columns : All KeepsColumns (lines_of (unit_text u))
+  pub continuations : All (λ (g : List Line). length g ≤ 18 + 1) (groups (lines_of (unit_text u)))
 
-abbrev pub Columns : Type 0
-Columns = (u : Subroutine) → IsUnit u → FitsCard u
+abbrev pub EachFitsCard : Type 0
+EachFitsCard = (u : Subroutine) → IsUnit u → FitsCard u

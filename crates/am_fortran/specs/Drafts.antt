@@ -1,7 +1,7 @@
 -- How far a text was read: what stands at its front, and the items so far.
 use Rattle.std.specs.Prelude.{◌≡◌, ◌<◌, ◌≤◌, ◌+◌, ◌==◌, ◌||◌, ◌++◌, ℕ, Bool, true, false, not, List, [], ◌∷◌, length, take, drop, map, if◌then◌else◌}
 use Rattle.std.specs.List.{flat_map, list_all, sum_by}
-use Rattle.am_fortran.specs.Lines.{Line, lines, groups}
+use Rattle.am_fortran.specs.Lines.{Line, lines_of, groups}
 use Rattle.am_fortran.specs.Items.{is_item, item_text}
 use Rattle.am_fortran.specs.Faults.{IsFault}
 use Rattle.am_fortran.specs.declared.draft.Draft.{Draft}
@@ -26,15 +26,15 @@ is_ended (b ∷ c ∷ cs) = is_ended (c ∷ cs)
 pub record IsLineFront (bytes : List ℕ) (end : ℕ) : Type 0 where
   pub some : 0 < end
   pub within : end ≤ length bytes
-  pub one : length (lines (take end bytes)) ≡ 1
+  pub one : length (lines_of (take end bytes)) ≡ 1
   pub ended : end < length bytes → is_ended (take end bytes) ≡ true
 
 -- that many bytes are the first group, of that many lines
 pub record IsGroupFront (bytes : List ℕ) (end count : ℕ) : Type 0 where
   pub some : 0 < end
   pub within : end ≤ length bytes
-  pub group : groups (lines bytes) ≡ lines (take end bytes) ∷ groups (lines (drop end bytes))
-  pub counted : count ≡ length (lines (take end bytes))
+  pub group : groups (lines_of bytes) ≡ lines_of (take end bytes) ∷ groups (lines_of (drop end bytes))
+  pub counted : count ≡ length (lines_of (take end bytes))
   pub few : count ≤ end
 
 -- the items of a draft, in order
@@ -51,14 +51,14 @@ executable_item s = Executable s
 abbrev pub end_item : Item
 end_item = End
 
-abbrev pub is_none : List Statement → Bool
-is_none [] = true
-is_none (s ∷ ss) = false
+abbrev pub no_statements : List Statement → Bool
+no_statements [] = true
+no_statements (s ∷ ss) = false
 
 -- whether the item can't stand behind those of the draft
 abbrev pub is_out : Draft → Item → Bool
 is_out d (Head name dummies) = true
-is_out d (Declaration declaration) = d.ended || not (is_none d.statements)
+is_out d (Declaration declaration) = d.ended || not (no_statements d.statements)
 is_out d (Executable s) = d.ended
 is_out d End = d.ended
 
@@ -73,13 +73,13 @@ is_head (Executable s) = false
 is_head End = false
 
 -- the first group of these bytes, the item that it spells, and its lines
-pub record IsFound (bytes : List ℕ) (f : Found) : Type 0 where
+pub record IsFirstItem (bytes : List ℕ) (f : Found) : Type 0 where
   pub front : IsGroupFront bytes f.end f.lines
   pub kept : is_item f.item ≡ true
   pub spelled : take f.end bytes ≡ item_text f.item
 
 -- the first group isn't ended, or spells no item
-pub record IsCut (bytes : List ℕ) : Type 0 where
+pub record IsCutShort (bytes : List ℕ) : Type 0 where
   pub end : ℕ
   pub count : ℕ
   pub front : IsGroupFront bytes end count
@@ -92,31 +92,31 @@ pub record IsBad (bytes : List ℕ) : Type 0 where
   pub ended : is_ended (take end bytes) ≡ true
   pub none : SpellsNone (take end bytes)
 
-abbrev pub IsUnread : List ℕ → UnitKind → Type 0
-IsUnread bytes Cut = IsCut bytes
-IsUnread bytes BadStatement = IsBad bytes
-IsUnread bytes Order = ⊥
-IsUnread bytes NoMemory = ⊥
+abbrev pub HasNoItem : List ℕ → UnitKind → Type 0
+HasNoItem bytes Cut = IsCutShort bytes
+HasNoItem bytes BadStatement = IsBad bytes
+HasNoItem bytes Order = ⊥
+HasNoItem bytes NoMemory = ⊥
 
 -- why no item was read of the group that begins with this line
 abbrev pub Unread : List ℕ → ℕ → ReadError → Type 0
 Unread bytes line Memory = Unit {0}
-Unread bytes line (Fault f) = (f.line ≡ line) × IsUnread bytes f.kind
+Unread bytes line (Fault f) = (f.line ≡ line) × HasNoItem bytes f.kind
 
 abbrev pub items_groups : List Item → List (List Line)
-items_groups items = map (λ i. lines (item_text i)) items
+items_groups items = map (λ i. lines_of (item_text i)) items
 
 -- How far a text was read: before the place stand the texts of the draft's items, whose groups are
 -- the first groups of the text, and the line is that of the next group.
-pub record Reads (bytes : List ℕ) (p : Progress) : Type 0 where
+pub record ReadsTo (bytes : List ℕ) (p : Progress) : Type 0 where
   pub within : p.at ≤ length bytes
   pub text : take p.at bytes ≡ flat_map item_text (draft_items p.draft)
   pub kept : list_all is_item (draft_items p.draft) ≡ true
-  pub found : groups (lines bytes) ≡ items_groups (draft_items p.draft) ++ groups (lines (drop p.at bytes))
+  pub found : groups (lines_of bytes) ≡ items_groups (draft_items p.draft) ++ groups (lines_of (drop p.at bytes))
   pub begins : p.line ≡ 1 + sum_by length (items_groups (draft_items p.draft))
   pub low : p.line ≤ 1 + p.at
 
 -- the fault is the first of the text, unless memory ran out
-abbrev pub Fails : List ℕ → ReadError → Type 0
-Fails bytes Memory = Unit {0}
-Fails bytes (Fault f) = IsFault bytes f.line f.kind
+abbrev pub TellsFault : List ℕ → ReadError → Type 0
+TellsFault bytes Memory = Unit {0}
+TellsFault bytes (Fault f) = IsFault bytes f.line f.kind

@@ -1,6 +1,6 @@
 -- Where the text of a unit is first at fault, and of which kind the fault is.
 use Rattle.std.specs.Prelude.{◌≡◌, ◌<◌, ◌≤◌, ◌⊎◌, ℕ, Bool, true, false, List, [], length, slice_index_or}
-use Rattle.am_fortran.specs.Lines.{Line, lines, groups, is_whole, first_line}
+use Rattle.am_fortran.specs.Lines.{Line, lines_of, groups, is_whole, first_line}
 use Rattle.am_fortran.specs.Items.{Spells, is_end, is_past_declarations}
 use Rattle.am_fortran.specs.declared.item.Item.{Item}
 use Rattle.am_fortran.specs.declared.item.Item.TheVariants.{Head, Declaration, Executable, End}
@@ -50,5 +50,5 @@ pub record IsFirst (gs : List (List Line)) (k : ℕ) (kind : UnitKind) : Type 0 
 -- the first fault of the text is of this kind, and stands at the group that begins with this line
 pub record IsFault (bytes : List ℕ) (line : ℕ) (kind : UnitKind) : Type 0 where
   pub place : ℕ
-  pub at : IsFirst (groups (lines bytes)) place kind
-  pub begins : line ≡ first_line (groups (lines bytes)) place
+  pub at : IsFirst (groups (lines_of bytes)) place kind
+  pub begins : line ≡ first_line (groups (lines_of bytes)) place

@@ -15,13 +15,13 @@ use Rattle.am_fortran.specs.declared.statement.Statement.{Statement}
 use Rattle.am_fortran.specs.declared.statement.Statement.TheVariants.{Call, Assign, Apply}
 
 -- the number that digits stand for, behind the digits of n
-abbrev pub read_on : ℕ → List ℕ → ℕ
-read_on n [] = n
-read_on n (c ∷ cs) = read_on (10 * n + (c - 48)) cs
+abbrev pub add_digits : ℕ → List ℕ → ℕ
+add_digits n [] = n
+add_digits n (c ∷ cs) = add_digits (10 * n + (c - 48)) cs
 
 -- digits below 2 ^ 32
-unfoldable pub number_of : List ℕ → ℕ
-number_of word = if list_all is_ascii_digit word && nat_lt (read_on 0 word) (2 ^ 32) then read_on 0 word else 0
+unfoldable pub small_number : List ℕ → ℕ
+small_number word = if list_all is_ascii_digit word && nat_lt (add_digits 0 word) (2 ^ 32) then add_digits 0 word else 0
 
 abbrev pub is_signed_digits : List ℕ → Bool
 is_signed_digits [] = true
@@ -30,11 +30,11 @@ is_signed_digits (b ∷ bs) = if b == 45 then list_all is_ascii_digit bs else li
 -- what digits, with a minus sign or without, stand for
 abbrev pub signed_value : List ℕ → ℤ
 signed_value [] = pos 0
-signed_value (b ∷ bs) = if b == 45 then neg_ℤ (pos (read_on 0 bs)) else pos (read_on 0 (b ∷ bs))
+signed_value (b ∷ bs) = if b == 45 then neg_ℤ (pos (add_digits 0 bs)) else pos (add_digits 0 (b ∷ bs))
 
 abbrev pub fits_value : List ℕ → Bool
 fits_value [] = true
-fits_value (b ∷ bs) = if b == 45 then nat_le (read_on 0 bs) (2 ^ 63) else nat_lt (read_on 0 (b ∷ bs)) (2 ^ 63)
+fits_value (b ∷ bs) = if b == 45 then nat_le (add_digits 0 bs) (2 ^ 63) else nat_lt (add_digits 0 (b ∷ bs)) (2 ^ 63)
 
 -- digits of an i64, with a minus sign or without
 unfoldable pub integer_of : List ℕ → ℤ
@@ -58,26 +58,26 @@ assigned target (function ∷ parenthesis ∷ args) = Apply target function (map
 unfoldable pub integer_type_of : List (List ℕ) → FortranType
 integer_type_of [] = Integer
 integer_type_of (parenthesis ∷ []) = Integer
-integer_type_of (parenthesis ∷ extent ∷ more) = IntegerVec (number_of extent)
+integer_type_of (parenthesis ∷ extent ∷ more) = IntegerVec (small_number extent)
 
 unfoldable pub double_of : List (List ℕ) → FortranType
 double_of [] = Double
 double_of (parenthesis ∷ []) = Double
-double_of (parenthesis ∷ extent ∷ []) = DoubleVec (number_of extent)
-double_of (parenthesis ∷ rows ∷ columns ∷ more) = DoubleMat (number_of rows) (number_of columns)
+double_of (parenthesis ∷ extent ∷ []) = DoubleVec (small_number extent)
+double_of (parenthesis ∷ rows ∷ columns ∷ more) = DoubleMat (small_number rows) (small_number columns)
 
 abbrev pub first_or_none : List (List ℕ) → List ℕ
 first_or_none [] = []
 first_or_none (w ∷ ws) = w
 
 -- a declaration by its first word, its second and the rest
-unfoldable pub declared : List ℕ → List ℕ → List (List ℕ) → Decl
-declared first second rest =
+unfoldable pub guessed_declaration : List ℕ → List ℕ → List (List ℕ) → Decl
+guessed_declaration first second rest =
     if bytes_eq first (codes "INTEGER") then record { ty = integer_type_of rest; name = second }
     else if bytes_eq first (codes "LOGICAL") then record { ty = Logical; name = second }
     else if bytes_eq first (codes "DOUBLE") then record { ty = double_of (drop 1 rest); name = first_or_none rest }
     else if bytes_eq second (codes "(") then record { ty = CharAny; name = first_or_none rest }
-    else record { ty = Char (number_of second); name = first_or_none rest }
+    else record { ty = Char (small_number second); name = first_or_none rest }
 
 unfoldable pub guessed : List (List ℕ) → Item
 guessed [] = End
@@ -86,4 +86,4 @@ guessed (first ∷ second ∷ rest) =
     if bytes_eq second (codes "=") then Executable (assigned first rest)
     else if bytes_eq first (codes "SUBROUTINE") then Head second (drop 1 rest)
     else if bytes_eq first (codes "CALL") then Executable (Call second (map operand_of (drop 1 rest)))
-    else Declaration (declared first second rest)
+    else Declaration (guessed_declaration first second rest)

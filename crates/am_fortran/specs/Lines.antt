@@ -16,9 +16,9 @@ onto_first b [] = record { text = b ∷ []; ended = false } ∷ []
 onto_first b (l ∷ ls) = record { text = b ∷ l.text; ended = l.ended } ∷ ls
 
 -- each byte 10 ends a line; what stands behind the last one is a line too, which isn't ended
-unfoldable pub lines : List ℕ → List Line
-lines [] = []
-lines (b ∷ bs) = if b == 10 then record { text = []; ended = true } ∷ lines bs else onto_first b (lines bs)
+unfoldable pub lines_of : List ℕ → List Line
+lines_of [] = []
+lines_of (b ∷ bs) = if b == 10 then record { text = []; ended = true } ∷ lines_of bs else onto_first b (lines_of bs)
 
 -- a continuation line begins with five blanks and a full stop
 abbrev pub is_continuation : Line → Bool

@@ -16,10 +16,10 @@ unfoldable pub line : List ℕ → List ℕ
 line statement = codes "      " ++ statement ++ 10 ∷ []
 
 -- members with a comma and a blank between them
-unfoldable pub listed : List (List ℕ) → List ℕ
-listed [] = []
-listed (x ∷ []) = x
-listed (x ∷ y ∷ ys) = x ++ codes ", " ++ listed (y ∷ ys)
+unfoldable pub with_commas : List (List ℕ) → List ℕ
+with_commas [] = []
+with_commas (x ∷ []) = x
+with_commas (x ∷ y ∷ ys) = x ++ codes ", " ++ with_commas (y ∷ ys)
 
 -- a continuation line for each member: a comma stands after it, and a parenthesis after the last
 unfoldable pub continued : List (List ℕ) → List ℕ
@@ -31,8 +31,8 @@ continued (x ∷ y ∷ ys) = codes "     . " ++ x ++ codes "," ++ 10 ∷ [] ++ c
 -- list on lines of its own. `front` ends with the parenthesis that opens.
 unfoldable pub with_list : List ℕ → List (List ℕ) → List ℕ
 with_list front members =
-    if nat_le (6 + length (front ++ listed members ++ codes ")")) 72
-    then line (front ++ listed members ++ codes ")")
+    if nat_le (6 + length (front ++ with_commas members ++ codes ")")) 72
+    then line (front ++ with_commas members ++ codes ")")
     else line front ++ continued members
 
 -- an operand: a name, a number in decimal, or a text between apostrophes

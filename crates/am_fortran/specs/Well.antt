@@ -29,14 +29,14 @@ abbrev pub is_declaration : Decl → Bool
 is_declaration d = is_type d.ty && is_fortran_name d.name
 
 -- what may stand in a text: the printing characters but the apostrophe and the quotation mark
-abbrev pub is_text_byte : ℕ → Bool
-is_text_byte b = is_between 32 126 b && (not (b == 34) && not (b == 39))
+abbrev pub is_unit_text_byte : ℕ → Bool
+is_unit_text_byte b = is_between 32 126 b && (not (b == 34) && not (b == 39))
 
 -- a text has 1 to 32 bytes
 abbrev pub is_operand : Operand → Bool
 is_operand (operand.Name n) = is_fortran_name n
 is_operand (operand.Int z) = true
-is_operand (operand.Text t) = list_all is_text_byte t && is_between 1 32 (length t)
+is_operand (operand.Text t) = list_all is_unit_text_byte t && is_between 1 32 (length t)
 
 -- a call has 1 to 18 arguments, a function 0 to 12
 unfoldable pub is_statement : Statement → Bool

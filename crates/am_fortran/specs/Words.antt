@@ -6,8 +6,8 @@ use Rattle.am_term.specs.Names.{is_fortran_byte}
 use Rattle.am_fortran.specs.Well.{is_between}
 
 -- what a word is made of outside texts: capitals, digits, the minus sign and the equals sign
-abbrev pub is_word_byte : ℕ → Bool
-is_word_byte b = is_fortran_byte b || (b == 45 || b == 61)
+abbrev pub is_unit_word_byte : ℕ → Bool
+is_unit_word_byte b = is_fortran_byte b || (b == 45 || b == 61)
 
 -- the words that are done, the one that is being read, and whether it is a text that goes on
 pub record Scan : Type 0 where
@@ -21,15 +21,15 @@ with_word done [] = done
 with_word done (b ∷ bs) = done ++ (b ∷ bs) ∷ []
 
 -- inside a text: an apostrophe ends it, and is left out; bytes that don't print are passed over
-unfoldable pub in_text : Scan → ℕ → Scan
-in_text s b =
+unfoldable pub in_quotes : Scan → ℕ → Scan
+in_quotes s b =
     if b == 39 then record { done = s.done; word = s.word; quoted = false }
     else if is_between 32 126 b then record { done = s.done; word = s.word ++ b ∷ []; quoted = true }
     else s
 
 -- the word being read is done
-abbrev pub ended : Scan → Scan
-ended s = record { done = with_word s.done s.word; word = []; quoted = false }
+abbrev pub word_ended : Scan → Scan
+word_ended s = record { done = with_word s.done s.word; word = []; quoted = false }
 
 abbrev pub with_parenthesis : Scan → Scan
 with_parenthesis s = record { done = s.done ++ codes "(" ∷ []; word = s.word; quoted = s.quoted }
@@ -37,17 +37,17 @@ with_parenthesis s = record { done = s.done ++ codes "(" ∷ []; word = s.word; 
 -- outside texts: a byte of a word, an apostrophe, a parenthesis, or what ends a word
 unfoldable pub in_words : Scan → ℕ → Scan
 in_words s b =
-    if is_word_byte b then record { done = s.done; word = s.word ++ b ∷ []; quoted = false }
+    if is_unit_word_byte b then record { done = s.done; word = s.word ++ b ∷ []; quoted = false }
     else if b == 39 then record { done = s.done; word = s.word ++ b ∷ []; quoted = true }
-    else if b == 40 then with_parenthesis (ended s)
-    else ended s
+    else if b == 40 then with_parenthesis (word_ended s)
+    else word_ended s
 
-unfoldable pub step : Scan → ℕ → Scan
-step s b = if s.quoted then in_text s b else in_words s b
+unfoldable pub scan_step : Scan → ℕ → Scan
+scan_step s b = if s.quoted then in_quotes s b else in_words s b
 
-abbrev pub start : Scan
-start = record { done = []; word = []; quoted = false }
+abbrev pub scan_start : Scan
+scan_start = record { done = []; word = []; quoted = false }
 
 -- a word that isn't ended is left out
 unfoldable pub words : List ℕ → List (List ℕ)
-words bytes = (fold step start bytes).done
+words bytes = (fold scan_step scan_start bytes).done

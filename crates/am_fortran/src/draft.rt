@@ -1,7 +1,7 @@
 ghost use Rattle.std.specs.Prelude.{◌≡◌, ◌∷◌, ◌++◌, [], IfOk, MatchOption, true, false};
 ghost use Rattle.std.specs.List.{list_all};
 ghost use Rattle.am_fortran.specs.Items.{is_item};
-ghost use Rattle.am_fortran.specs.Drafts.{draft_items, is_out, is_none, is_head, declaration_item, executable_item, end_item};
+ghost use Rattle.am_fortran.specs.Drafts.{draft_items, is_out, no_statements, is_head, declaration_item, executable_item, end_item};
 ghost use Rattle.am_fortran.specs.Units.{IsUnit, unit_items};
 
 use crate::item::Item;
@@ -60,7 +60,8 @@ impl Draft {
 
     /// The draft with one more item, or `None` where the item can't stand there.
     pub fn with_item(self, item: Item) -> Result<Option<Draft>, NoMemory>
-        ensures { IfOk result (λ next. MatchOption next (is_out self item ≡ true) (λ draft. draft_items draft ≡ draft_items self ++ item ∷ [])) }
+        ensures { IfOk result (λ next. MatchOption next (is_out self item ≡ true) (λ draft.
+            draft_items draft ≡ draft_items self ++ item ∷ [])) }
     {
         if self.ended {
             return Ok(None);
@@ -75,7 +76,8 @@ impl Draft {
 
     fn with_declaration(self, declaration: Decl) -> Result<Option<Draft>, NoMemory>
         requires { self.ended ≡ false }
-        ensures { IfOk result (λ next. MatchOption next (is_none self.statements ≡ false) (λ draft. draft_items draft ≡ draft_items self ++ declaration_item declaration ∷ [])) }
+        ensures { IfOk result (λ next. MatchOption next (no_statements self.statements ≡ false) (λ draft.
+            draft_items draft ≡ draft_items self ++ declaration_item declaration ∷ [])) }
     {
         let mut draft = self;
         if !draft.statements.is_empty() {

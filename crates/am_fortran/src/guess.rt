@@ -1,6 +1,6 @@
 ghost use Rattle.std.specs.Prelude.{◌≡◌, IfOk, map, drop};
 ghost use Rattle.std.specs.Str.{bytes_eq};
-ghost use Rattle.am_fortran.specs.Guess.{operand_of, assigned, double_of, declared, guessed, first_or_none, integer_type_of};
+ghost use Rattle.am_fortran.specs.Guess.{operand_of, assigned, double_of, guessed_declaration, guessed, first_or_none, integer_type_of};
 
 use crate::item::Item;
 use crate::numbers::{integer, number};
@@ -58,9 +58,9 @@ fn assignment(alloc: Global, target: &Name, rest: &[Name]) -> Result<Statement, 
     })
 }
 
-#[tactic(auto, unfolding(crate::specs::Guess::declared))]
+#[tactic(auto, unfolding(crate::specs::Guess::guessed_declaration))]
 fn declaration(alloc: Global, first: &Name, second: &Name, rest: &[Name]) -> Result<Decl, NoMemory>
-    ensures { IfOk result (λ declaration. declaration ≡ declared first.now second.now rest.now) }
+    ensures { IfOk result (λ declaration. declaration ≡ guessed_declaration first.now second.now rest.now) }
 {
     if is_word(first, "INTEGER") {
         let name = Name::new(alloc, second.as_str())?;

@@ -1,4 +1,4 @@
-ghost use Rattle.am_fortran.specs.Columns.{OneText, Columns};
+ghost use Rattle.am_fortran.specs.Columns.{OneText, EachFitsCard};
 ghost use Rattle.am_fortran.specs.Units.{IsUnit};
 
 use crate::unit::Unit;
@@ -12,7 +12,7 @@ pub fn law_of_one_text()
 /// No line of a unit's text is longer than 72 columns or begins with `C`, and no statement has more
 /// than 18 continuation lines.
 pub fn law_of_columns()
-    ensures { Columns }
+    ensures { EachFitsCard }
 {}
 
 /// The numbers of a unit in memory are those of 64 bits, so each such unit is one of which the other

@@ -1,5 +1,5 @@
 ghost use Rattle.std.specs.Prelude.{◌≡◌, ◌<◌, length, true};
-ghost use Rattle.am_fortran.specs.Lines.{lines, goes_on as is_going_on};
+ghost use Rattle.am_fortran.specs.Lines.{lines_of, goes_on as is_going_on};
 ghost use Rattle.am_fortran.specs.Drafts.{is_ended, IsGroupFront, IsLineFront};
 
 /// How many bytes and how many lines the first group of the bytes has: a line and the continuation
@@ -42,7 +42,7 @@ fn first_line(bytes: &[u8]) -> usize
 
 #[tactic(auto, using(crate::proofs::Grouping::first_laws))]
 fn goes_on(bytes: &[u8]) -> bool
-    ensures { result ≡ is_going_on (lines bytes.now) }
+    ensures { result ≡ is_going_on (lines_of bytes.now) }
 {
     bytes.starts_with(b"     .")
 }

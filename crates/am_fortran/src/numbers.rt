@@ -1,12 +1,12 @@
 ghost use Rattle.std.specs.Prelude.{◌≡◌};
 ghost use Rattle.std.specs.List.{list_all};
 ghost use Rattle.std.specs.Char.{is_ascii_digit};
-ghost use Rattle.am_fortran.specs.Guess.{number_of, integer_of, is_signed_digits};
+ghost use Rattle.am_fortran.specs.Guess.{small_number, integer_of, is_signed_digits};
 
 /// The number below 2^32 that the text spells in digits, else 0.
-#[tactic(auto, unfolding(crate::specs::Guess::number_of))]
+#[tactic(auto, unfolding(crate::specs::Guess::small_number))]
 pub fn number(text: &str) -> u32
-    ensures { result ≡ number_of text.now }
+    ensures { result ≡ small_number text.now }
 {
     if !all_digits(text.as_bytes()) {
         return 0;

@@ -2,7 +2,7 @@ ghost use Rattle.std.specs.Prelude.{◌≡◌, ◌≢◌, ◌<◌, ◌≤◌, �
 ghost use Rattle.am_fortran.specs.Text.{unit_text};
 ghost use Rattle.am_fortran.specs.Units.{IsUnit};
 ghost use Rattle.am_fortran.specs.Faults.{IsFault};
-ghost use Rattle.am_fortran.specs.Drafts.{IsFound, Unread, Reads, Fails};
+ghost use Rattle.am_fortran.specs.Drafts.{IsFirstItem, Unread, ReadsTo, TellsFault};
 ghost use Rattle.am_fortran.specs.declared.unit.Unit.{Unit as Subroutine};
 ghost use Rattle.am_fortran.specs.declared.fault.ReadError.TheVariants.{Fault};
 ghost use Rattle.am_fortran.specs.declared.fault.UnitKind.{UnitKind};
@@ -23,11 +23,13 @@ pub fn read_unit(alloc: Global, bytes: &[u8]) -> Result<Unit, UnitFault>
     // What is read is the unit of this text.
     ensures found { IfOk result (λ unit. IsUnit unit × (bytes.now ≡ unit_text unit)) }
     // The text of a unit is read, unless memory runs out.
-    ensures again { (u : Subroutine) → IsUnit u → bytes.now ≡ unit_text u → MatchResult result (λ unit. unit ≡ u) (λ fault. fault.kind ≡ NoMemory) }
+    ensures again { (u : Subroutine) → IsUnit u → bytes.now ≡ unit_text u
+        → MatchResult result (λ unit. unit ≡ u) (λ fault. fault.kind ≡ NoMemory) }
     // A fault is the first.
     ensures fault { IfErr result (λ fault. fault.kind ≢ NoMemory → IsFault bytes.now fault.line fault.kind) }
     // The first fault is answered, unless memory runs out.
-    ensures first { (line : ℕ) (kind : UnitKind) → IsFault bytes.now line kind → MatchResult result (λ _. ⊥) (λ fault. (fault.kind ≡ NoMemory) ⊎ ((fault.line ≡ line) × (fault.kind ≡ kind))) }
+    ensures first { (line : ℕ) (kind : UnitKind) → IsFault bytes.now line kind
+        → MatchResult result (λ _. ⊥) (λ fault. (fault.kind ≡ NoMemory) ⊎ ((fault.line ≡ line) × (fault.kind ≡ kind))) }
 {
     match read(alloc, bytes) {
         Ok(unit) => Ok(unit),
@@ -42,7 +44,7 @@ pub fn read_unit(alloc: Global, bytes: &[u8]) -> Result<Unit, UnitFault>
 fn read(alloc: Global, bytes: &[u8]) -> Result<Unit, ReadError>
     requires { length bytes.now ≤ 16777216 }
     ensures ok { IfOk result (λ unit. IsUnit unit × (bytes.now ≡ unit_text unit)) }
-    ensures err { IfErr result (λ e. Fails bytes.now e) }
+    ensures err { IfErr result (λ e. TellsFault bytes.now e) }
 {
     let mut progress = start(alloc, bytes)?;
     while progress.at < bytes.len() {
@@ -58,8 +60,8 @@ fn read(alloc: Global, bytes: &[u8]) -> Result<Unit, ReadError>
 /// Reads the head.
 fn start(alloc: Global, bytes: &[u8]) -> Result<Progress, ReadError>
     requires { length bytes.now ≤ 16777216 }
-    ensures ok { IfOk result (λ progress. Reads bytes.now progress) }
-    ensures err { IfErr result (λ e. Fails bytes.now e) }
+    ensures ok { IfOk result (λ progress. ReadsTo bytes.now progress) }
+    ensures err { IfErr result (λ e. TellsFault bytes.now e) }
 {
     if bytes.is_empty() {
         return Err(fault(1, UnitKind::Cut));
@@ -79,9 +81,9 @@ fn start(alloc: Global, bytes: &[u8]) -> Result<Progress, ReadError>
 fn next(alloc: Global, progress: Progress, bytes: &[u8]) -> Result<Progress, ReadError>
     requires small { length bytes.now ≤ 16777216 }
     requires more { progress.at < length bytes.now }
-    requires reads { Reads bytes.now progress }
-    ensures ok { IfOk result (λ next. Reads bytes.now next × (progress.at < next.at)) }
-    ensures err { IfErr result (λ e. Fails bytes.now e) }
+    requires reads { ReadsTo bytes.now progress }
+    ensures ok { IfOk result (λ next. ReadsTo bytes.now next × (progress.at < next.at)) }
+    ensures err { IfErr result (λ e. TellsFault bytes.now e) }
 {
     let Progress { draft, at, line } = progress;
     let Found { item, end, lines } = item_at(alloc, &bytes[at..], line)?;
@@ -98,7 +100,7 @@ fn next(alloc: Global, progress: Progress, bytes: &[u8]) -> Result<Progress, Rea
 /// The item that the first group spells.
 fn item_at(alloc: Global, bytes: &[u8], line: u32) -> Result<Found, ReadError>
     requires { 0 < length bytes.now }
-    ensures ok { IfOk result (λ found. IsFound bytes.now found) }
+    ensures ok { IfOk result (λ found. IsFirstItem bytes.now found) }
     ensures err { IfErr result (λ e. Unread bytes.now line e) }
 {
     let (end, lines) = first_group(bytes);

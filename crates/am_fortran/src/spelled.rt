@@ -16,7 +16,8 @@ use std::alloc::Global;
 /// The item that the group spells, or `None` where it spells none: the item that its words may
 /// spell is written, and the text compared.
 pub fn item_of(alloc: Global, group: &[u8]) -> Result<Option<Item>, NoMemory>
-    ensures { IfOk result (λ found. MatchOption found (SpellsNone group.now) (λ item. (is_kept_item item ≡ true) × (group.now ≡ item_text item))) }
+    ensures { IfOk result (λ found. MatchOption found (SpellsNone group.now) (λ item. (is_kept_item item ≡ true)
+        × (group.now ≡ item_text item))) }
 {
     let item = guess_of(alloc, group)?;
     if is_spelled(alloc, &item, group)? {

@@ -1,7 +1,7 @@
 ghost use Rattle.std.specs.Prelude.{◌≡◌, ◌&&◌, true, length};
 ghost use Rattle.std.specs.List.{list_all};
 ghost use Rattle.am_term.specs.Names.{is_fortran_name as is_spelled_fortran};
-ghost use Rattle.am_fortran.specs.Well.{is_type as is_kept_type, is_declaration as is_kept_declaration, is_statement as is_kept_statement, is_operand as is_kept_operand, is_text_byte, fits_operand, fits_statement, is_between};
+ghost use Rattle.am_fortran.specs.Well.{is_type as is_kept_type, is_declaration as is_kept_declaration, is_statement as is_kept_statement, is_operand as is_kept_operand, is_unit_text_byte, fits_operand, fits_statement, is_between};
 ghost use Rattle.am_fortran.specs.Items.{is_item as is_kept_item};
 
 use crate::item::Item;
@@ -99,14 +99,14 @@ fn is_operand(operand: &Operand) -> bool
 }
 
 fn is_text(text: &[u8]) -> bool
-    ensures { result ≡ (list_all is_text_byte text.now && is_between 1 32 (length text.now)) }
+    ensures { result ≡ (list_all is_unit_text_byte text.now && is_between 1 32 (length text.now)) }
 {
     all_text_bytes(text) && 1 <= text.len() && text.len() <= 32
 }
 
 #[tactic(auto, using(crate::proofs::Elements::test_laws))]
 fn all_text_bytes(text: &[u8]) -> bool
-    ensures { result ≡ list_all is_text_byte text.now }
+    ensures { result ≡ list_all is_unit_text_byte text.now }
 {
     for byte in text {
         if !text_byte(*byte) {
@@ -117,7 +117,7 @@ fn all_text_bytes(text: &[u8]) -> bool
 }
 
 fn text_byte(byte: u8) -> bool
-    ensures { result ≡ is_text_byte byte }
+    ensures { result ≡ is_unit_text_byte byte }
 {
     32 <= byte && byte <= 126 && byte != b'"' && byte != b'\''
 }

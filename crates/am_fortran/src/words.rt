@@ -1,6 +1,6 @@
 ghost use Rattle.std.specs.Prelude.{◌≡◌, OnOk, IfOk};
 ghost use Rattle.std.specs.String.{string_bytes};
-ghost use Rattle.am_fortran.specs.Words.{Scan, in_text, in_words, ended, step, start, words as words_of, is_word_byte};
+ghost use Rattle.am_fortran.specs.Words.{Scan, in_quotes, in_words, word_ended, scan_step, scan_start, words as words_of, is_unit_word_byte};
 
 use am_term::{Name, NoMemory};
 use sqlite_items::Items;
@@ -23,7 +23,7 @@ impl Model for Scanner {
 
 impl Scanner {
     fn new(alloc: Global) -> Scanner
-        ensures { result ≡ start }
+        ensures { result ≡ scan_start }
     {
         Scanner {
             done: Items::new(alloc),
@@ -32,9 +32,9 @@ impl Scanner {
         }
     }
 
-    #[tactic(auto, unfolding(crate::specs::Words::step))]
+    #[tactic(auto, unfolding(crate::specs::Words::scan_step))]
     fn step(&mut self, alloc: Global, byte: u8) -> Result<(), NoMemory>
-        ensures { OnOk result (self.new ≡ step self.old byte) }
+        ensures { OnOk result (self.new ≡ scan_step self.old byte) }
     {
         if self.quoted {
             self.in_text(byte)
@@ -43,9 +43,9 @@ impl Scanner {
         }
     }
 
-    #[tactic(auto, unfolding(crate::specs::Words::in_text))]
+    #[tactic(auto, unfolding(crate::specs::Words::in_quotes))]
     fn in_text(&mut self, byte: u8) -> Result<(), NoMemory>
-        ensures { OnOk result (self.new ≡ in_text self.old byte) }
+        ensures { OnOk result (self.new ≡ in_quotes self.old byte) }
     {
         if byte == b'\'' {
             self.quoted = false;
@@ -76,7 +76,7 @@ impl Scanner {
     }
 
     fn end_word(&mut self, alloc: Global) -> Result<(), NoMemory>
-        ensures { OnOk result (self.new ≡ ended self.old) }
+        ensures { OnOk result (self.new ≡ word_ended self.old) }
     {
         if !self.word.is_empty() {
             self.done.push(Name::new(alloc, self.word.as_str())?)?;
@@ -101,7 +101,7 @@ pub fn words(alloc: Global, group: &[u8]) -> Result<Items<Name>, NoMemory>
 }
 
 fn word_byte(byte: u8) -> bool
-    ensures { result ≡ is_word_byte byte }
+    ensures { result ≡ is_unit_word_byte byte }
 {
     (b'A' <= byte && byte <= b'Z') || (b'0' <= byte && byte <= b'9') || byte == b'-' || byte == b'='
 }

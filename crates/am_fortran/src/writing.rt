@@ -2,7 +2,7 @@ ghost use Rattle.std.specs.Prelude.{◌≡◌, ◌∷◌, ◌++◌, [], map, IfO
 ghost use Rattle.std.specs.List.{flat_map};
 ghost use Rattle.std.specs.Fmt.{decimal};
 ghost use Rattle.am_fortran.specs.Items.{item_text};
-ghost use Rattle.am_fortran.specs.Joined.{joined};
+ghost use Rattle.am_fortran.specs.Joined.{separated};
 ghost use Rattle.am_fortran.specs.Text.{line, continued, with_list, operand_text, type_text, extents_text, declaration_text, statement_text, head_text, unit_text};
 
 use crate::item::Item;
@@ -229,9 +229,9 @@ fn push_continued(out: &mut Vec<u8>, members: &[Name]) -> Result<(), NoMemory>
 }
 
 /// Writes the members with `separator` between them.
-#[tactic(auto, unfolding(crate::specs::Joined::joined))]
+#[tactic(auto, unfolding(crate::specs::Joined::separated))]
 fn push_joined(out: &mut Vec<u8>, separator: &[u8], members: &[Name]) -> Result<(), NoMemory>
-    ensures { OnOk result (out.new.items ≡ out.old.items ++ joined separator.now members.now) }
+    ensures { OnOk result (out.new.items ≡ out.old.items ++ separated separator.now members.now) }
 {
     let [first, rest @ ..] = members else {
         return Ok(());

@@ -11,9 +11,9 @@ use Rattle.am_diagram.specs.declared.diagram.Diagram.{Diagram}
 use Rattle.am_log.specs.Cut.{cut, width, further_lines, piece_lines, wrapped}
 use Rattle.am_log.specs.Groups.{is_inside}
 use Rattle.am_log.specs.Laws.{OneText, RowsAreCut, LogIsTheProofPart, OneWay}
-use Rattle.am_log.specs.Naming.{Names, names_in, named_row}
+use Rattle.am_log.specs.Naming.{Names, known_names, named_row}
 use Rattle.am_log.specs.Spelled.{row_text}
-use Rattle.am_log.specs.Split.{is_c, is_no_c, lines_begin, begin_with_c, begin_without_c, ends_line, is_none, starts_with_c, IsSplit}
+use Rattle.am_log.specs.Split.{is_c, is_no_c, lines_begin, begin_with_c, begin_without_c, ends_line, no_bytes, starts_with_c, IsSplit}
 use Rattle.am_log.specs.Text.{rows_text, log_text}
 use Rattle.am_log.proofs.Conditions.{spellable_from, rows_spellable}
 use Rattle.am_log.proofs.Distinct.{apart}
@@ -31,8 +31,8 @@ one_log = λ t d log other h g v w e. let is = logs_one t d log.rows other.rows 
 -- ---- the text of a row is cut
 pub rows_cut : RowsAreCut
 rows_cut = λ t d k r h g w.
-    let f = row_wraps (named_row (names_in t d) k r) (spellable_from t d h g k r w).named in
-    ((the_cut width (row_text (named_row (names_in t d) k r))).keeps f.whole, f)
+    let f = row_wraps (named_row (known_names t d) k r) (spellable_from t d h g k r w).named in
+    ((the_cut width (row_text (named_row (known_names t d) k r))).keeps f.whole, f)
 
 -- ---- each line begins with a C
 line_on : (p rest : List ℕ) → list_all is_inside p ≡ true → lines_begin is_c false (p ++ 10 ∷ rest) ≡ lines_begin is_c true rest
@@ -54,11 +54,11 @@ pieces_on (p ∷ ps) rest h =
     let s = and_parts (list_all is_inside p) (list_all (list_all is_inside) ps) h in
     ap (lines_begin is_c false) (append_assoc p (10 ∷ further_lines ps) rest) ∙ line_on p (further_lines ps ++ rest) s.0 ∙ further_on ps rest s.1
 
-rows_on : (t : Theory) (d : Diagram) (k : ℕ) (rs : List Row) → AreSpellable t d k rs → begin_with_c (rows_text (names_in t d) k rs) ≡ true
+rows_on : (t : Theory) (d : Diagram) (k : ℕ) (rs : List Row) → AreSpellable t d k rs → begin_with_c (rows_text (known_names t d) k rs) ≡ true
 rows_on t d k [] w = refl
 rows_on t d k (r ∷ rs) w =
-    let f = row_wraps (named_row (names_in t d) k r) w.0.named in
-    pieces_on (cut width (row_text (named_row (names_in t d) k r))) (rows_text (names_in t d) (k + 1) rs) (cut_inside width (row_text (named_row (names_in t d) k r)) f.inside) ∙ rows_on t d (k + 1) rs w.1
+    let f = row_wraps (named_row (known_names t d) k r) w.0.named in
+    pieces_on (cut width (row_text (named_row (known_names t d) k r))) (rows_text (known_names t d) (k + 1) rs) (cut_inside width (row_text (named_row (known_names t d) k r)) f.inside) ∙ rows_on t d (k + 1) rs w.1
 
 -- ---- and is ended
 ends_append : (start : Bool) (p q : List ℕ) → ends_line start (p ++ q) ≡ ends_line (ends_line start p) q
@@ -94,7 +94,7 @@ unfolding log_text
 log_split = λ t d log unit h g w e. record {
   all = refl;
   lines = rows_on t d 1 log.rows (rows_spellable t d h g 1 log.rows w);
-  ended = or_last (is_none unit) _ (rows_end (names_in t d) 1 log.rows);
+  ended = or_last (no_bytes unit) _ (rows_end (known_names t d) 1 log.rows);
   behind = no_start unit e;
 }
 

@@ -10,16 +10,16 @@ use Rattle.am_term.specs.declared.signature.Signature.{Signature}
 use Rattle.am_clause.specs.declared.row.Row.{Row}
 use Rattle.am_theory.specs.declared.theory.Theory.{Theory}
 use Rattle.am_diagram.specs.declared.diagram.Diagram.{Diagram}
-use Rattle.am_diagram.specs.Listed.{sorts_in}
+use Rattle.am_diagram.specs.Listed.{entry_sorts}
 use Rattle.am_log.specs.declared.fault.LogKind.{LogKind}
 use Rattle.am_log.specs.declared.fault.LogKind.TheVariants.{NotProof, BadWrap, BadRow, BadNumber, UnknownName, BadSort, NoMemory}
-use Rattle.am_log.specs.Answers.{group_row, with_row, rows_in, is_headed, wrong_head, head_fault, at, rows_behind, log_answer}
-use Rattle.am_log.specs.Cut.{joined, wrapped, cut, cut_within, longest}
+use Rattle.am_log.specs.Answers.{group_row, row_before, rows_in, begins_proof, wrong_head, head_fault, at, rows_behind, log_answer}
+use Rattle.am_log.specs.Cut.{pieced_together, wrapped, cut, cut_within, longest}
 use Rattle.am_log.specs.Faults.{head_line, HoldsOfHead, HoldsOfRow, group_at, Holds, rank, IsFirst, lines_in, line_at, IsFault}
 use Rattle.am_log.specs.Groups.{groups, Wraps}
-use Rattle.am_log.specs.Naming.{Names, names_in}
-use Rattle.am_log.specs.Text.{first_line, byte_limit}
-use Rattle.am_log.specs.Unwrapped.{group_text}
+use Rattle.am_log.specs.Naming.{Names, known_names}
+use Rattle.am_log.specs.Text.{proof_line, byte_limit}
+use Rattle.am_log.specs.Unwrapped.{unwrapped_text}
 use Rattle.am_log.proofs.GroupKinds.{IsFirstKind, IsKindOf, first_kind, no_text, one_wrap}
 use Rattle.am_log.proofs.Lines.{text_found}
 use Rattle.am_log.proofs.Tidy.{tidy_joined}
@@ -66,7 +66,7 @@ module _ (n : Names) (sig : Signature) (ins : List SortId) where
   first_behind k p g gs kind h f zero other i = absurd (h other (at_front k g gs other i))
   first_behind k p g gs kind h f (suc j) other i = one_on p j (rank kind ≤ rank other) (f.first j other (behind_front k j g gs other i))
 
-  step_by : (k l : ℕ) (g : List ℕ) (gs : List (List ℕ)) (x : Result Row LogKind) (y : Result (List Row) (ℕ × LogKind)) → IsKindOf n sig ins k g x → LaterAnswer (k + 1) (l + lines_in g) gs y → LaterAnswer k l (g ∷ gs) (with_row l x y)
+  step_by : (k l : ℕ) (g : List ℕ) (gs : List (List ℕ)) (x : Result Row LogKind) (y : Result (List Row) (ℕ × LogKind)) → IsKindOf n sig ins k g x → LaterAnswer (k + 1) (l + lines_in g) gs y → LaterAnswer k l (g ∷ gs) (row_before l x y)
   step_by k l g gs (Err kind) y h a = (0, record { holds = to_front k g gs kind h.holds; first = first_in_front k g gs kind h }, omega arith)
   step_by k l g gs (Ok r) (Ok rs) h a = none_more k g gs h a
   step_by k l g gs (Ok r) (Err e) h a =
@@ -74,10 +74,10 @@ module _ (n : Names) (sig : Signature) (ins : List SortId) where
       let b = a.2 in
       (suc a.0, record { holds = to_behind k a.0 g gs e.1 a.1.holds; first = first_behind k a.0 g gs e.1 h a.1 }, omega (arith, b, c))
 
-  rows_kinds : (k l : ℕ) (gs : List (List ℕ)) → length (joined gs) ≤ byte_limit → LaterAnswer k l gs (rows_in n sig ins k l gs)
+  rows_kinds : (k l : ℕ) (gs : List (List ℕ)) → length (pieced_together gs) ≤ byte_limit → LaterAnswer k l gs (rows_in n sig ins k l gs)
   rows_kinds k l [] s = λ j kind i. let h = i.0 in absurd (omega (arith, h))
   rows_kinds k l (g ∷ gs) s =
-      let c = length-append g (joined gs) in
+      let c = length-append g (pieced_together gs) in
       step_by k l g gs (group_row n sig ins k g) (rows_in n sig ins (k + 1) (l + lines_in g) gs) (first_kind n sig ins k g (omega (arith, s, c))) (rows_kinds (k + 1) (l + lines_in g) gs (omega (arith, s, c)))
 
   -- ---- of all groups
@@ -92,33 +92,33 @@ module _ (n : Names) (sig : Signature) (ins : List SortId) where
   later_tail j h gs kind i = let e : 1 + j ≡ suc j = omega arith in (omega (arith, i.0), subst (λ (m : ℕ). HoldsOfRow n sig ins m (group_at gs j) kind) e i.1)
 
   -- ---- the head is the first line
-  head_wraps : Wraps first_line (codes "(proof 1)")
+  head_wraps : Wraps proof_line (codes "(proof 1)")
   unfolding cut cut_within longest
   head_wraps = record { inside = refl; whole = tidy_joined 68 (codes "(proof 1)") refl; lines_are = refl }
 
-  no_head : (kind : LogKind) → HoldsOfHead first_line kind → ⊥
+  no_head : (kind : LogKind) → HoldsOfHead proof_line kind → ⊥
   no_head NotProof i = i refl
   no_head BadWrap i = i (codes "(proof 1)") head_wraps
-  no_head BadRow i = i.2 (one_wrap first_line i.0 (codes "(proof 1)") i.1 head_wraps)
+  no_head BadRow i = i.2 (one_wrap proof_line i.0 (codes "(proof 1)") i.1 head_wraps)
   no_head BadNumber i = i
   no_head UnknownName i = i
   no_head BadSort i = i
   no_head NoMemory i = i
 
-  none_at_all : (gs : List (List ℕ)) → ((j : ℕ) (kind : LogKind) → Later 1 gs j kind → ⊥) → (j : ℕ) (kind : LogKind) → Holds n sig ins (first_line ∷ gs) j kind → ⊥
+  none_at_all : (gs : List (List ℕ)) → ((j : ℕ) (kind : LogKind) → Later 1 gs j kind → ⊥) → (j : ℕ) (kind : LogKind) → Holds n sig ins (proof_line ∷ gs) j kind → ⊥
   none_at_all gs law zero kind i = no_head kind i
-  none_at_all gs law (suc j) kind i = law j kind (tail_later j first_line gs kind i)
+  none_at_all gs law (suc j) kind i = law j kind (tail_later j proof_line gs kind i)
 
-  first_of_rows : (p : ℕ) (gs : List (List ℕ)) (kind : LogKind) → IsFirstLater 1 gs p kind → (j : ℕ) (other : LogKind) → Holds n sig ins (first_line ∷ gs) j other → (suc p < j) ⊎ ((suc p ≡ j) × (rank kind ≤ rank other))
+  first_of_rows : (p : ℕ) (gs : List (List ℕ)) (kind : LogKind) → IsFirstLater 1 gs p kind → (j : ℕ) (other : LogKind) → Holds n sig ins (proof_line ∷ gs) j other → (suc p < j) ⊎ ((suc p ≡ j) × (rank kind ≤ rank other))
   first_of_rows p gs kind f zero other i = absurd (no_head other i)
-  first_of_rows p gs kind f (suc j) other i = one_on p j (rank kind ≤ rank other) (f.first j other (tail_later j first_line gs other i))
+  first_of_rows p gs kind f (suc j) other i = one_on p j (rank kind ≤ rank other) (f.first j other (tail_later j proof_line gs other i))
 
-  rows_answer : (gs : List (List ℕ)) (y : Result (List Row) (ℕ × LogKind)) → LaterAnswer 1 2 gs y → Answer (first_line ∷ gs) y
+  rows_answer : (gs : List (List ℕ)) (y : Result (List Row) (ℕ × LogKind)) → LaterAnswer 1 2 gs y → Answer (proof_line ∷ gs) y
   rows_answer gs (Ok rs) a = none_at_all gs a
   rows_answer gs (Err e) a =
-      let c = sum_by-cons lines_in first_line (take a.0 gs) in
+      let c = sum_by-cons lines_in proof_line (take a.0 gs) in
       let b = a.2 in
-      (suc a.0, record { holds = later_tail a.0 first_line gs e.1 a.1.holds; first = first_of_rows a.0 gs e.1 a.1 }, omega (arith, b, c))
+      (suc a.0, record { holds = later_tail a.0 proof_line gs e.1 a.1.holds; first = first_of_rows a.0 gs e.1 a.1 }, omega (arith, b, c))
 
   -- ---- the head is something else
   some_rank : (kind : LogKind) → 1 ≤ rank kind
@@ -140,7 +140,7 @@ module _ (n : Names) (sig : Signature) (ins : List SortId) where
   not_proof : (gs : List (List ℕ)) → head_line (group_at gs 0) ≢ codes "C (proof 1)" → Answer gs (Err (1, NotProof))
   not_proof gs h = at_head gs NotProof h (λ other i. some_rank other)
 
-  bad_wrap : (g : List ℕ) (gs : List (List ℕ)) → head_line g ≡ codes "C (proof 1)" → group_text g ≡ None → Answer (g ∷ gs) (Err (1, BadWrap))
+  bad_wrap : (g : List ℕ) (gs : List (List ℕ)) → head_line g ≡ codes "C (proof 1)" → unwrapped_text g ≡ None → Answer (g ∷ gs) (Err (1, BadWrap))
   bad_wrap g gs h e = at_head (g ∷ gs) BadWrap (no_text g e) first
     where
       first : (other : LogKind) → HoldsOfHead g other → 2 ≤ rank other
@@ -158,13 +158,13 @@ module _ (n : Names) (sig : Signature) (ins : List SortId) where
   same_bytes : (a b : List ℕ) → a ≡ b → bytes_eq a b ≡ true
   same_bytes a b e = grind (arith, bytes_eq-Decides a b)
 
-  other_text : (g t : List ℕ) → bytes_eq g first_line ≡ false → Wraps g t → t ≢ codes "(proof 1)"
+  other_text : (g t : List ℕ) → bytes_eq g proof_line ≡ false → Wraps g t → t ≢ codes "(proof 1)"
   other_text g t e w = λ k.
-      let is : g ≡ first_line = w.lines_are ∙ ap wrapped k ∙ sym head_wraps.lines_are in
-      let z : bytes_eq g first_line ≡ true = same_bytes g first_line is in
+      let is : g ≡ proof_line = w.lines_are ∙ ap wrapped k ∙ sym head_wraps.lines_are in
+      let z : bytes_eq g proof_line ≡ true = same_bytes g proof_line is in
       absurd cc
 
-  bad_row : (g t : List ℕ) (gs : List (List ℕ)) → head_line g ≡ codes "C (proof 1)" → bytes_eq g first_line ≡ false → Wraps g t → Answer (g ∷ gs) (Err (1, BadRow))
+  bad_row : (g t : List ℕ) (gs : List (List ℕ)) → head_line g ≡ codes "C (proof 1)" → bytes_eq g proof_line ≡ false → Wraps g t → Answer (g ∷ gs) (Err (1, BadRow))
   bad_row g t gs h e w = at_head (g ∷ gs) BadRow (t, w, other_text g t e w) first
     where
       first : (other : LogKind) → HoldsOfHead g other → 3 ≤ rank other
@@ -176,27 +176,27 @@ module _ (n : Names) (sig : Signature) (ins : List SortId) where
       first BadSort i = omega arith
       first NoMemory i = omega arith
 
-  wrong_by : (g : List ℕ) (gs : List (List ℕ)) (o : Option (List ℕ)) → head_line g ≡ codes "C (proof 1)" → bytes_eq g first_line ≡ false → group_text g ≡ o → Answer (g ∷ gs) (Err (1, wrong_head o))
+  wrong_by : (g : List ℕ) (gs : List (List ℕ)) (o : Option (List ℕ)) → head_line g ≡ codes "C (proof 1)" → bytes_eq g proof_line ≡ false → unwrapped_text g ≡ o → Answer (g ∷ gs) (Err (1, wrong_head o))
   wrong_by g gs None h e k = bad_wrap g gs h k
   wrong_by g gs (Some t) h e k = bad_row g t gs h e (text_found g t k)
 
-  headed_by : (g : List ℕ) (gs : List (List ℕ)) (b : Bool) → is_headed g ≡ b → bytes_eq g first_line ≡ false → Answer (g ∷ gs) (Err (1, if b then wrong_head (group_text g) else NotProof))
-  headed_by g gs true h e = wrong_by g gs (group_text g) (equal_bytes (head_line g) (codes "C (proof 1)") h) e refl
-  headed_by g gs false h e = not_proof (g ∷ gs) (λ k. let z : is_headed g ≡ true = same_bytes (head_line g) (codes "C (proof 1)") k in absurd cc)
+  headed_by : (g : List ℕ) (gs : List (List ℕ)) (b : Bool) → begins_proof g ≡ b → bytes_eq g proof_line ≡ false → Answer (g ∷ gs) (Err (1, if b then wrong_head (unwrapped_text g) else NotProof))
+  headed_by g gs true h e = wrong_by g gs (unwrapped_text g) (equal_bytes (head_line g) (codes "C (proof 1)") h) e refl
+  headed_by g gs false h e = not_proof (g ∷ gs) (λ k. let z : begins_proof g ≡ true = same_bytes (head_line g) (codes "C (proof 1)") k in absurd cc)
 
-  front_by : (g : List ℕ) (gs : List (List ℕ)) (b : Bool) → bytes_eq g first_line ≡ b → length (joined gs) ≤ byte_limit → Answer (g ∷ gs) (if b then rows_in n sig ins 1 2 gs else at 1 (head_fault g))
+  front_by : (g : List ℕ) (gs : List (List ℕ)) (b : Bool) → bytes_eq g proof_line ≡ b → length (pieced_together gs) ≤ byte_limit → Answer (g ∷ gs) (if b then rows_in n sig ins 1 2 gs else at 1 (head_fault g))
   front_by g gs true e s =
-      let is : first_line ≡ g = sym (equal_bytes g first_line e) in
+      let is : proof_line ≡ g = sym (equal_bytes g proof_line e) in
       subst (λ (h : List ℕ). Answer (h ∷ gs) (rows_in n sig ins 1 2 gs)) is (rows_answer gs (rows_in n sig ins 1 2 gs) (rows_kinds 1 2 gs s))
-  front_by g gs false e s = headed_by g gs (is_headed g) refl e
+  front_by g gs false e s = headed_by g gs (begins_proof g) refl e
 
-  groups_answer : (gs : List (List ℕ)) → length (joined gs) ≤ byte_limit → Answer gs (rows_behind n sig ins gs)
+  groups_answer : (gs : List (List ℕ)) → length (pieced_together gs) ≤ byte_limit → Answer gs (rows_behind n sig ins gs)
   groups_answer [] s = not_proof [] (λ e. absurd cc)
-  groups_answer (g ∷ gs) s = let c = length-append g (joined gs) in front_by g gs (bytes_eq g first_line) refl (omega (arith, s, c))
+  groups_answer (g ∷ gs) s = let c = length-append g (pieced_together gs) in front_by g gs (bytes_eq g proof_line) refl (omega (arith, s, c))
 
   pub log_kinds : (bytes : List ℕ) → length bytes ≤ byte_limit → Answer (groups bytes) (log_answer n sig ins bytes)
   unfolding log_answer
-  log_kinds bytes s = let e : length (joined (groups bytes)) ≡ length bytes = ap length (groups_joined bytes) in groups_answer (groups bytes) (omega (arith, s, e))
+  log_kinds bytes s = let e : length (pieced_together (groups bytes)) ≡ length bytes = ap length (groups_joined bytes) in groups_answer (groups bytes) (omega (arith, s, e))
 
 -- ---- one fault is the first
 kind_of_rank : ℕ → LogKind
@@ -231,7 +231,7 @@ meet p q a b (inr x) (inr y) = let z = x.1 in let v = y.1 in (x.0, omega (arith,
 -- ---- what the reader answers
 module _ (t : Theory) (d : Diagram) (bytes : List ℕ) (s : length bytes ≤ byte_limit) where
   abbrev answered : Result (List Row) (ℕ × LogKind)
-  answered = log_answer (names_in t d) t.sig (sorts_in d.inputs) bytes
+  answered = log_answer (known_names t d) t.sig (entry_sorts d.inputs) bytes
 
   abbrev good : List Row → Result (List Row) (ℕ × LogKind)
   good rs = Ok rs
@@ -239,8 +239,8 @@ module _ (t : Theory) (d : Diagram) (bytes : List ℕ) (s : length bytes ≤ byt
   abbrev bad : ℕ → LogKind → Result (List Row) (ℕ × LogKind)
   bad line kind = Err (line, kind)
 
-  answer_as : (x : Result (List Row) (ℕ × LogKind)) → answered ≡ x → Answer (names_in t d) t.sig (sorts_in d.inputs) (groups bytes) x
-  answer_as x e = subst (Answer (names_in t d) t.sig (sorts_in d.inputs) (groups bytes)) e (log_kinds (names_in t d) t.sig (sorts_in d.inputs) bytes s)
+  answer_as : (x : Result (List Row) (ℕ × LogKind)) → answered ≡ x → Answer (known_names t d) t.sig (entry_sorts d.inputs) (groups bytes) x
+  answer_as x e = subst (Answer (known_names t d) t.sig (entry_sorts d.inputs) (groups bytes)) e (log_kinds (known_names t d) t.sig (entry_sorts d.inputs) bytes s)
 
   -- where rows are read there is no fault
   pub no_fault : (rs : List Row) → answered ≡ good rs → (line : ℕ) (kind : LogKind) → IsFault t d bytes line kind → ⊥

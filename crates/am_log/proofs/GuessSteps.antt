@@ -4,7 +4,7 @@ use Rattle.std.proofs.Common.{◌<◌, length, arith}
 use Rattle.std.specs.Prelude.{ℤ}
 use Rattle.std.specs.List.{before_first, after_first, position_or_len}
 use Rattle.std.proofs.lemmas.Bool.{lt-ltb, le-ltb}
-use Rattle.am_log.specs.Guess.{number_of, is_mark, word_at, number_at, members_at, small_value, word_in, number_in, members_in, word_guess, Guessed, nothing, terms_of, list_guess, guess_step, form_guess, guess_of, node_guess_of, guess_term}
+use Rattle.am_log.specs.Guess.{number_in_word, is_mark, word_or_empty, small_number_at, members_at, small_value, word_in, number_in, members_in, word_guess, Guessed, no_guess, guessed_terms, list_guess, guess_step, form_guess, guess_of, node_guess_of, guess_term}
 use Rattle.std.proofs.lemmas.List.{map_more, map_push}
 use Rattle.std.proofs.lemmas.Grind.{common_steps}
 use Rattle.am_text.specs.declared.form.Form.{Form}
@@ -20,7 +20,7 @@ use Rattle.am_log.specs.declared.named.NamedTerm.TheVariants.{Variable, Alone, H
 
 -- ---- the word, the number and the members of a node
 pub node_word : FormNode → List ℕ
-node_word n = word_at (out-FormNode n)
+node_word n = word_or_empty (out-FormNode n)
 
 pub word-at : (f : Form) → word_in f ≡ node_word f.node
 unfolding word_in node_word
@@ -28,22 +28,22 @@ word-at f = refl
 
 pub word-Word : (w : List ℕ) → node_word (node.Word w) ≡ w
 unfolding node_word
-word-Word w = ap word_at (outs-Word w)
+word-Word w = ap word_or_empty (outs-Word w)
 
 pub word-Number : (n : ℤ) → node_word (node.Number n) ≡ []
 unfolding node_word
-word-Number n = ap word_at (outs-Number n)
+word-Number n = ap word_or_empty (outs-Number n)
 
 pub word-Text : (t : List ℕ) → node_word (node.Text t) ≡ []
 unfolding node_word
-word-Text t = ap word_at (outs-Text t)
+word-Text t = ap word_or_empty (outs-Text t)
 
 pub word-List : (fs : List Form) → node_word (node.List fs) ≡ []
 unfolding node_word
-word-List fs = ap word_at (outs-List fs)
+word-List fs = ap word_or_empty (outs-List fs)
 
 pub node_number : FormNode → ℕ
-node_number n = number_at (out-FormNode n)
+node_number n = small_number_at (out-FormNode n)
 
 pub number-at : (f : Form) → number_in f ≡ node_number f.node
 unfolding number_in node_number
@@ -51,19 +51,19 @@ number-at f = refl
 
 pub number-Word : (w : List ℕ) → node_number (node.Word w) ≡ 0
 unfolding node_number
-number-Word w = ap number_at (outs-Word w)
+number-Word w = ap small_number_at (outs-Word w)
 
 pub number-Number : (n : ℤ) → node_number (node.Number n) ≡ small_value n
 unfolding node_number
-number-Number n = ap number_at (outs-Number n)
+number-Number n = ap small_number_at (outs-Number n)
 
 pub number-Text : (t : List ℕ) → node_number (node.Text t) ≡ 0
 unfolding node_number
-number-Text t = ap number_at (outs-Text t)
+number-Text t = ap small_number_at (outs-Text t)
 
 pub number-List : (fs : List Form) → node_number (node.List fs) ≡ 0
 unfolding node_number
-number-List fs = ap number_at (outs-List fs)
+number-List fs = ap small_number_at (outs-List fs)
 
 pub node_members : FormNode → List Form
 node_members n = members_at (out-FormNode n)
@@ -95,11 +95,11 @@ pub guess-Word : (w : List ℕ) → node_guess_of (node.Word w) ≡ record { wor
 unfolding node_guess_of
 guess-Word w = ap (fold-FormNode Guessed Guessed guess_step form_guess) (sym (rolls-Word w)) ∙ fold-roll-FormNode Guessed Guessed guess_step form_guess (FormNode-F.Word w)
 
-pub guess-Number : (n : ℤ) → node_guess_of (node.Number n) ≡ nothing
+pub guess-Number : (n : ℤ) → node_guess_of (node.Number n) ≡ no_guess
 unfolding node_guess_of
 guess-Number n = ap (fold-FormNode Guessed Guessed guess_step form_guess) (sym (rolls-Number n)) ∙ fold-roll-FormNode Guessed Guessed guess_step form_guess (FormNode-F.Number n)
 
-pub guess-Text : (t : List ℕ) → node_guess_of (node.Text t) ≡ nothing
+pub guess-Text : (t : List ℕ) → node_guess_of (node.Text t) ≡ no_guess
 unfolding node_guess_of
 guess-Text t = ap (fold-FormNode Guessed Guessed guess_step form_guess) (sym (rolls-Text t)) ∙ fold-roll-FormNode Guessed Guessed guess_step form_guess (FormNode-F.Text t)
 
@@ -149,19 +149,19 @@ pub term-nil : node_term (node.List []) ≡ Alone []
 unfolding node_term
 term-nil = ap (λ (g : Guessed). g.term) (guess-List [])
 
-terms_are : (fs : List Form) → terms_of (map guess_of fs) ≡ map guess_term fs
+terms_are : (fs : List Form) → guessed_terms (map guess_of fs) ≡ map guess_term fs
 unfolding guess_term
 terms_are [] = refl
 terms_are (f ∷ fs) = ap (λ (ts : List NamedTerm). (guess_of f).term ∷ ts) (terms_are fs)
 
 pub term-cons : (h : Form) (fs : List Form) → node_term (node.List (h ∷ fs)) ≡ Headed (word_in h) (map guess_term fs)
 unfolding node_term
-term-cons h fs = ap (λ (g : Guessed). g.term) (guess-List (h ∷ fs)) ∙ ap (λ (w : List ℕ). Headed w (terms_of (map guess_of fs))) (guess_word_is h) ∙ ap (Headed (word_in h)) (terms_are fs)
+term-cons h fs = ap (λ (g : Guessed). g.term) (guess-List (h ∷ fs)) ∙ ap (λ (w : List ℕ). Headed w (guessed_terms (map guess_of fs))) (guess_word_is h) ∙ ap (Headed (word_in h)) (terms_are fs)
 
 pub ruleset guess_laws = (common_steps, the_lemmas, map_more, map_push, term-at, term-Word, term-Number, term-Text, term-nil, term-cons)
 
 -- ---- a word with a mark, and one without
-pub marked_word : (w s d : List ℕ) (n : ℕ) → position_or_len is_mark w < length w → s ≡ before_first is_mark w → d ≡ after_first is_mark w → n ≡ number_of d → Variable s n ≡ word_guess w
+pub marked_word : (w s d : List ℕ) (n : ℕ) → position_or_len is_mark w < length w → s ≡ before_first is_mark w → d ≡ after_first is_mark w → n ≡ number_in_word d → Variable s n ≡ word_guess w
 unfolding word_guess
 marked_word w s d n l e f g = rw (lt-ltb (position_or_len is_mark w) (length w) l, e, g, f) refl
 

@@ -6,9 +6,9 @@ use Rattle.std.specs.Str.{bytes_eq}
 use Rattle.std.proofs.lemmas.Bool.{and_parts, cases_lt}
 use Rattle.std.proofs.lemmas.Slice.Eq.{bytes_eq-Decides}
 use Rattle.std.proofs.lemmas.List.Folds.{list_all-append}
-use Rattle.am_log.specs.Cut.{longest, split_at, cut_within, cut, width, joined, further_lines, piece_lines, wrapped}
+use Rattle.am_log.specs.Cut.{longest, split_at, cut_within, cut, width, pieced_together, further_lines, piece_lines, wrapped}
 use Rattle.am_log.specs.Groups.{ends_group, groups, is_inside, Wraps}
-use Rattle.am_log.specs.Unwrapped.{unwrapped, group_text}
+use Rattle.am_log.specs.Unwrapped.{unwrapped, unwrapped_text}
 
 inside_not : (b : ℕ) → is_inside b ≡ true → (b == 10) ≡ false
 inside_not b h = elim (b == 10) as (λ t. not t ≡ true → t ≡ false) [ true ↦ λ k. sym k | false ↦ λ k. refl ] h
@@ -24,24 +24,24 @@ unwrap_line (b ∷ bs) rest h =
 abbrev pub AllInside : List (List ℕ) → Type 0
 AllInside ps = list_all (list_all is_inside) ps ≡ true
 
-unwrap_further : (ps : List (List ℕ)) → AllInside ps → unwrapped 2 (further_lines ps) ≡ joined ps
+unwrap_further : (ps : List (List ℕ)) → AllInside ps → unwrapped 2 (further_lines ps) ≡ pieced_together ps
 unfolding unwrapped
 unwrap_further [] h = refl
 unwrap_further (p ∷ ps) h =
     let s = and_parts (list_all is_inside p) (list_all (list_all is_inside) ps) h in
     unwrap_line p (further_lines ps) s.0 ∙ ap (λ (z : List ℕ). p ++ z) (unwrap_further ps s.1)
 
-unwrap_pieces : (ps : List (List ℕ)) → AllInside ps → unwrapped 2 (piece_lines ps) ≡ joined ps
+unwrap_pieces : (ps : List (List ℕ)) → AllInside ps → unwrapped 2 (piece_lines ps) ≡ pieced_together ps
 unfolding unwrapped
 unwrap_pieces [] h = refl
 unwrap_pieces (p ∷ ps) h =
     let s = and_parts (list_all is_inside p) (list_all (list_all is_inside) ps) h in
     unwrap_line p (further_lines ps) s.0 ∙ ap (λ (z : List ℕ). p ++ z) (unwrap_further ps s.1)
 
-pieces_inside : (ps : List (List ℕ)) → list_all is_inside (joined ps) ≡ true → AllInside ps
+pieces_inside : (ps : List (List ℕ)) → list_all is_inside (pieced_together ps) ≡ true → AllInside ps
 pieces_inside [] h = refl
 pieces_inside (p ∷ ps) h =
-    let s = and_parts (list_all is_inside p) (list_all is_inside (joined ps)) (sym (list_all-append is_inside p (joined ps)) ∙ h) in
+    let s = and_parts (list_all is_inside p) (list_all is_inside (pieced_together ps)) (sym (list_all-append is_inside p (pieced_together ps)) ∙ h) in
     rw (s.0, pieces_inside ps s.1) refl
 
 unwrap_step : (t : Bool) (b : ℕ) (xs ys : List ℕ) → (b == 10) ≡ t → list_all is_inside xs ≡ true → list_all is_inside ys ≡ true → list_all is_inside (if t then xs else b ∷ ys) ≡ true
@@ -78,7 +78,7 @@ pub cut_inside : (w : ℕ) (t : List ℕ) → list_all is_inside t ≡ true → 
 unfolding cut
 cut_inside w t h = within_inside w (length t) t h
 
-unwrap_wrapped : (t : List ℕ) → list_all is_inside t ≡ true → unwrapped 2 (wrapped t) ≡ joined (cut width t)
+unwrap_wrapped : (t : List ℕ) → list_all is_inside t ≡ true → unwrapped 2 (wrapped t) ≡ pieced_together (cut width t)
 unwrap_wrapped t h = unwrap_pieces (cut width t) (cut_inside width t h)
 
 -- ---- the text of a group
@@ -100,13 +100,13 @@ wraps_by g t true e h =
 wraps_by g t false e h = absurd cc
 
 -- a text that was found is the group's
-pub text_found : (g t : List ℕ) → group_text g ≡ a_text t → Wraps g t
-unfolding group_text
+pub text_found : (g t : List ℕ) → unwrapped_text g ≡ a_text t → Wraps g t
+unfolding unwrapped_text
 text_found g t e = wraps_by g t (bytes_eq (wrapped (unwrapped 2 g)) g) refl e
 
 -- and the text of a group is found
-pub text_again : (g t : List ℕ) → Wraps g t → group_text g ≡ a_text t
-unfolding group_text
+pub text_again : (g t : List ℕ) → Wraps g t → unwrapped_text g ≡ a_text t
+unfolding unwrapped_text
 text_again g t w =
     let u : unwrapped 2 g ≡ t = ap (unwrapped 2) w.lines_are ∙ unwrap_wrapped t w.inside ∙ w.whole in
     let e : bytes_eq (wrapped (unwrapped 2 g)) g ≡ true = same_bytes (wrapped (unwrapped 2 g)) g (ap wrapped u ∙ sym w.lines_are) in
@@ -148,18 +148,18 @@ pieces_group (p ∷ ps) rest l i k =
     ap (λ (z : List ℕ). groups (codes "C " ++ z)) (append_assoc p (10 ∷ further_lines ps) rest)
     ∙ lines_group (codes "C " ++ p) ps rest s.0 s.1 k
 
-joined_none : (ps : List (List ℕ)) → length ps ≡ 0 → joined ps ≡ []
+joined_none : (ps : List (List ℕ)) → length ps ≡ 0 → pieced_together ps ≡ []
 joined_none [] h = refl
 joined_none (p ∷ ps) h = absurd (omega (arith, h))
 
-some_pieces : (t : List ℕ) → 0 < length t → joined (cut width t) ≡ t → 0 < length (cut width t)
+some_pieces : (t : List ℕ) → 0 < length t → pieced_together (cut width t) ≡ t → 0 < length (cut width t)
 some_pieces t l e = elim (cases_lt 0 (length (cut width t))) [
   | inl h ↦ h
   | inr h ↦ absurd (let z : [] ≡ t = sym (joined_none (cut width t) (omega (arith, h))) ∙ e in let y = ap length z in omega (arith, y, l))
 ]
 
 -- the lines of a text are the first group of what they begin
-pub wrapped_group : (t rest : List ℕ) → 0 < length t → list_all is_inside t ≡ true → joined (cut width t) ≡ t → starts_with ◌==◌ rest (codes "C+") ≡ false → groups (wrapped t ++ rest) ≡ wrapped t ∷ groups rest
+pub wrapped_group : (t rest : List ℕ) → 0 < length t → list_all is_inside t ≡ true → pieced_together (cut width t) ≡ t → starts_with ◌==◌ rest (codes "C+") ≡ false → groups (wrapped t ++ rest) ≡ wrapped t ∷ groups rest
 wrapped_group t rest l h e k = pieces_group (cut width t) rest (some_pieces t l e) (cut_inside width t h) k
 
 -- a group is as long as its text at least
@@ -177,6 +177,6 @@ short_by : (g t : List ℕ) (b : Bool) → (if b then Some (unwrapped 2 g) else 
 short_by g t true e = let k : unwrapped 2 g ≡ t = cc in let h = unwrapped_length 2 g in let y = ap length k in omega (arith, h, y)
 short_by g t false e = absurd cc
 
-pub unwrapped_short : (g t : List ℕ) → group_text g ≡ a_text t → length t ≤ length g
-unfolding group_text
+pub unwrapped_short : (g t : List ℕ) → unwrapped_text g ≡ a_text t → length t ≤ length g
+unfolding unwrapped_text
 unwrapped_short g t e = short_by g t (bytes_eq (wrapped (unwrapped 2 g)) g) e

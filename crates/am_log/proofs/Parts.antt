@@ -4,7 +4,7 @@ use Rattle.std.specs.Prelude.{◌&&◌, ◌||◌, ◌==◌, not, if◌then◌els
 use Rattle.std.proofs.lemmas.Grind.{common_steps}
 use Rattle.std.proofs.lemmas.List.{take-append-drop}
 use Rattle.am_log.specs.Laws.{OneSplit}
-use Rattle.am_log.specs.Split.{is_c, is_no_c, lines_begin, begin_with_c, ends_line, is_none, starts_with_c, IsSplit, proof_bytes}
+use Rattle.am_log.specs.Split.{is_c, is_no_c, lines_begin, begin_with_c, ends_line, no_bytes, starts_with_c, IsSplit, proof_bytes}
 
 -- ---- the place that is found
 within_by : (t : Bool) (n m : ℕ) → n ≤ m → (if t then 0 else suc n) ≤ suc m
@@ -26,12 +26,12 @@ unfolding proof_bytes
 found_lines start [] = refl
 found_lines start (b ∷ bs) = lines_by start (is_c b) b (proof_bytes (b == 10) bs) bs refl (found_lines (b == 10) bs)
 
-ended_by : (start c : Bool) (b n : ℕ) (bs : List ℕ) → (is_none (drop n bs) || ends_line (b == 10) (take n bs)) ≡ true → (is_none (drop (if start && not c then 0 else suc n) (b ∷ bs)) || ends_line start (take (if start && not c then 0 else suc n) (b ∷ bs))) ≡ true
+ended_by : (start c : Bool) (b n : ℕ) (bs : List ℕ) → (no_bytes (drop n bs) || ends_line (b == 10) (take n bs)) ≡ true → (no_bytes (drop (if start && not c then 0 else suc n) (b ∷ bs)) || ends_line start (take (if start && not c then 0 else suc n) (b ∷ bs))) ≡ true
 ended_by true true b n bs h = h
 ended_by true false b n bs h = refl
 ended_by false c b n bs h = h
 
-found_ended : (start : Bool) (t : List ℕ) → (is_none (drop (proof_bytes start t) t) || ends_line start (take (proof_bytes start t) t)) ≡ true
+found_ended : (start : Bool) (t : List ℕ) → (no_bytes (drop (proof_bytes start t) t) || ends_line start (take (proof_bytes start t) t)) ≡ true
 unfolding proof_bytes
 found_ended start [] = refl
 found_ended start (b ∷ bs) = ended_by start (is_c b) b (proof_bytes (b == 10) bs) bs (found_ended (b == 10) bs)
@@ -63,10 +63,10 @@ pub ruleset split_laws = (common_steps, found_split, found_within)
 -- what a split says from the start of a line on or from inside one
 record IsSplitFrom (start : Bool) (p u : List ℕ) : Type 0 where
   pub lines : lines_begin is_c start p ≡ true
-  pub ended : (is_none u || ends_line start p) ≡ true
+  pub ended : (no_bytes u || ends_line start p) ≡ true
   pub behind : starts_with_c u ≡ false
 
-first_in : (start c : Bool) (b : ℕ) (q v : List ℕ) → is_c b ≡ c → (is_none (b ∷ q) || start) ≡ true → starts_with_c (b ∷ q) ≡ false → lines_begin is_c start (b ∷ v) ≡ true → ⊥
+first_in : (start c : Bool) (b : ℕ) (q v : List ℕ) → is_c b ≡ c → (no_bytes (b ∷ q) || start) ≡ true → starts_with_c (b ∷ q) ≡ false → lines_begin is_c start (b ∷ v) ≡ true → ⊥
 first_in true true b q v e h k l = absurd cc
 first_in true false b q v e h k l = absurd (let z : false ≡ true = sym (rw e refl) ∙ l in cc)
 first_in false c b q v e h k l = absurd cc
@@ -83,11 +83,11 @@ split_from : (start : Bool) (p u q v : List ℕ) → IsSplitFrom start p u → I
 split_from start [] u [] v k l e = (refl, e)
 split_from start [] u (b ∷ q) v k l e = absurd (
     let h : starts_with_c (b ∷ (q ++ v)) ≡ false = sym (ap starts_with_c e) ∙ k.behind in
-    let i : (is_none (b ∷ (q ++ v)) || start) ≡ true = sym (ap (λ (z : List ℕ). is_none z || start) e) ∙ k.ended in
+    let i : (no_bytes (b ∷ (q ++ v)) || start) ≡ true = sym (ap (λ (z : List ℕ). no_bytes z || start) e) ∙ k.ended in
     first_in start (is_c b) b (q ++ v) q refl i h l.lines)
 split_from start (b ∷ p) u [] v k l e = absurd (
     let h : starts_with_c (b ∷ (p ++ u)) ≡ false = ap starts_with_c e ∙ l.behind in
-    let i : (is_none (b ∷ (p ++ u)) || start) ≡ true = ap (λ (z : List ℕ). is_none z || start) e ∙ l.ended in
+    let i : (no_bytes (b ∷ (p ++ u)) || start) ≡ true = ap (λ (z : List ℕ). no_bytes z || start) e ∙ l.ended in
     first_in start (is_c b) b (p ++ u) p refl i h k.lines)
 split_from start (b ∷ p) u (c ∷ q) v k l e =
     let same : b ≡ c = cc in

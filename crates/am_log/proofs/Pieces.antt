@@ -3,7 +3,7 @@ use Rattle.std.proofs.Common.{◌≡◌, ◌<◌, ◌≤◌, ℕ, zero, suc, Boo
 use Rattle.std.specs.Prelude.{◌==◌, if◌then◌else◌}
 use Rattle.std.proofs.lemmas.Bool.{cases_lt}
 use Rattle.std.proofs.lemmas.List.{take-append-drop}
-use Rattle.am_log.specs.Cut.{reach, longest, cut, joined, ends_with_blank, IsPrefix, IsPiece, IsCut}
+use Rattle.am_log.specs.Cut.{reach, longest, cut, pieced_together, ends_with_blank, IsPrefix, IsPiece, IsCut}
 use Rattle.am_log.specs.Laws.{IsTheCut, CutKeepsTheRule}
 use Rattle.am_log.proofs.Cutting.{longest_within, longest_narrow, cut_stops, cut_goes_on}
 
@@ -70,21 +70,21 @@ rest_joined zero t x l e = e
 rest_joined (suc n) [] x l e = absurd (omega (arith, l))
 rest_joined (suc n) (b ∷ bs) x l e = let h : take n bs ++ x ≡ bs = cc in rest_joined n bs x (omega (arith, l)) h
 
-none_left : (w : ℕ) (t : List ℕ) → longest w t ≡ 0 → joined (cut w t) ≡ t → IsCut w t (cut w t)
+none_left : (w : ℕ) (t : List ℕ) → longest w t ≡ 0 → pieced_together (cut w t) ≡ t → IsCut w t (cut w t)
 none_left w t z e =
     let none : cut w t ≡ [] = cut_stops w t z in
-    let empty : t ≡ [] = sym e ∙ ap joined none in
+    let empty : t ≡ [] = sym e ∙ ap pieced_together none in
     subst (λ (ps : List (List ℕ)). IsCut w t ps) (sym none) empty
 
-keeps_more : (w : ℕ) (t : List ℕ) → 0 < longest w t → joined (cut w t) ≡ t → (joined (cut w (drop (longest w t) t)) ≡ drop (longest w t) t → IsCut w (drop (longest w t) t) (cut w (drop (longest w t) t))) → IsCut w t (cut w t)
+keeps_more : (w : ℕ) (t : List ℕ) → 0 < longest w t → pieced_together (cut w t) ≡ t → (pieced_together (cut w (drop (longest w t) t)) ≡ drop (longest w t) t → IsCut w (drop (longest w t) t) (cut w (drop (longest w t) t))) → IsCut w t (cut w t)
 keeps_more w t s e law =
     let some : cut w t ≡ take (longest w t) t ∷ cut w (drop (longest w t) t) = cut_goes_on w t s in
-    let rest : joined (cut w (drop (longest w t) t)) ≡ drop (longest w t) t = rest_joined (longest w t) t (joined (cut w (drop (longest w t) t))) (longest_within w t) (sym (ap joined some) ∙ e) in
+    let rest : pieced_together (cut w (drop (longest w t) t)) ≡ drop (longest w t) t = rest_joined (longest w t) t (pieced_together (cut w (drop (longest w t) t))) (longest_within w t) (sym (ap pieced_together some) ∙ e) in
     let size = length_take (longest w t) t (longest_within w t) in
     let more : IsCut w (drop (length (take (longest w t) t)) t) (cut w (drop (longest w t) t)) = subst (λ (k : ℕ). IsCut w (drop k t) (cut w (drop (longest w t) t))) (sym size) (law rest) in
     subst (λ (ps : List (List ℕ)). IsCut w t ps) (sym some) (longest_piece w t s, more)
 
-keeps_within : (w m : ℕ) (t : List ℕ) → length t ≤ m → joined (cut w t) ≡ t → IsCut w t (cut w t)
+keeps_within : (w m : ℕ) (t : List ℕ) → length t ≤ m → pieced_together (cut w t) ≡ t → IsCut w t (cut w t)
 keeps_within w zero t l e = let k = longest_within w t in none_left w t (omega (arith, k, l)) e
 keeps_within w (suc m) t l e = elim (cases_lt 0 (longest w t)) [
   | inl s ↦ keeps_more w t s e (λ h. keeps_within w m (drop (longest w t) t) (omega (arith, length-drop (longest w t) t, l, s)) h)
@@ -117,7 +117,7 @@ only_cut w t (p ∷ ps) k =
     let some = k.0.some in
     ap (λ (z : List ℕ). z ∷ ps) first ∙ ap (λ (zs : List (List ℕ)). take (longest w t) t ∷ zs) more ∙ sym (cut_goes_on w t (omega (arith, size, some)))
 
-joins_cut : (w : ℕ) (t : List ℕ) (ps : List (List ℕ)) → IsCut w t ps → joined ps ≡ t
+joins_cut : (w : ℕ) (t : List ℕ) (ps : List (List ℕ)) → IsCut w t ps → pieced_together ps ≡ t
 joins_cut w t [] k = sym k
 joins_cut w t (p ∷ ps) k =
     let rest : drop (length p) t ≡ k.0.prefix.behind = ap (drop (length p)) k.0.prefix.front ∙ front_dropped p k.0.prefix.behind in

@@ -12,9 +12,9 @@ use Rattle.am_log.specs.declared.fault.LogKind.{LogKind}
 use Rattle.am_log.specs.Groups.{groups, onto_first, ends_group}
 use Rattle.am_log.specs.Unwrapped.{first_length}
 use Rattle.am_log.specs.Naming.{Names}
-use Rattle.am_log.specs.Answers.{group_row, at, with_row, rows_in, head_fault, rows_behind, log_answer}
+use Rattle.am_log.specs.Answers.{group_row, at, row_before, rows_in, head_fault, rows_behind, log_answer}
 use Rattle.am_log.specs.Faults.{lines_in}
-use Rattle.am_log.specs.Text.{first_line}
+use Rattle.am_log.specs.Text.{proof_line}
 
 -- ---- the first group of some bytes
 front_step : (t : Bool) (b m : ℕ) (bs : List ℕ) → groups bs ≡ take m bs ∷ groups (drop m bs) → (if t then (b ∷ []) ∷ groups bs else onto_first b (groups bs)) ≡ take (if t then 1 else suc m) (b ∷ bs) ∷ groups (drop (if t then 1 else suc m) (b ∷ bs))
@@ -65,7 +65,7 @@ good r = Ok r
 abbrev pub bad : LogKind → Result Row LogKind
 bad kind = Err kind
 
-onto_more : (rs : List Row) (r : Row) (l : ℕ) (x : Result (List Row) (ℕ × LogKind)) → onto rs (with_row l (good r) x) ≡ onto (rs ++ r ∷ []) x
+onto_more : (rs : List Row) (r : Row) (l : ℕ) (x : Result (List Row) (ℕ × LogKind)) → onto rs (row_before l (good r) x) ≡ onto (rs ++ r ∷ []) x
 onto_more rs r l (Ok qs) = ap Ok (sym (append_assoc rs (r ∷ []) qs))
 onto_more rs r l (Err e) = refl
 
@@ -73,13 +73,13 @@ pub rows_step : (n : Names) (sig : Signature) (ins : List SortId) (k l : ℕ) (r
     → onto rs (rows_in n sig ins k l (groups rest)) ≡ onto (rs ++ r ∷ []) (rows_in n sig ins (k + 1) (l + lines_in g) (groups more))
 rows_step n sig ins k l rs rest g more r s e =
     ap (λ (gs : List (List ℕ)). onto rs (rows_in n sig ins k l gs)) s
-    ∙ ap (λ (x : Result Row LogKind). onto rs (with_row l x (rows_in n sig ins (k + 1) (l + lines_in g) (groups more)))) e
+    ∙ ap (λ (x : Result Row LogKind). onto rs (row_before l x (rows_in n sig ins (k + 1) (l + lines_in g) (groups more)))) e
     ∙ onto_more rs r l (rows_in n sig ins (k + 1) (l + lines_in g) (groups more))
 
 pub rows_stop : (n : Names) (sig : Signature) (ins : List SortId) (k l : ℕ) (rs : List Row) (rest g more : List ℕ) (kind : LogKind) → groups rest ≡ g ∷ groups more → group_row n sig ins k g ≡ bad kind → onto rs (rows_in n sig ins k l (groups rest)) ≡ Err (l, kind)
 rows_stop n sig ins k l rs rest g more kind s e =
     ap (λ (gs : List (List ℕ)). onto rs (rows_in n sig ins k l gs)) s
-    ∙ ap (λ (x : Result Row LogKind). onto rs (with_row l x (rows_in n sig ins (k + 1) (l + lines_in g) (groups more)))) e
+    ∙ ap (λ (x : Result Row LogKind). onto rs (row_before l x (rows_in n sig ins (k + 1) (l + lines_in g) (groups more)))) e
 
 none_left : (rest : List ℕ) → length rest ≡ 0 → groups rest ≡ []
 unfolding groups
@@ -101,11 +101,11 @@ pub empty_answer : (n : Names) (sig : Signature) (ins : List SortId) (bytes : Li
 unfolding log_answer
 empty_answer n sig ins bytes h = ap (rows_behind n sig ins) (none_left bytes h)
 
-pub rows_answer : (n : Names) (sig : Signature) (ins : List SortId) (bytes g more : List ℕ) → groups bytes ≡ g ∷ groups more → bytes_eq g first_line ≡ true → log_answer n sig ins bytes ≡ rows_in n sig ins 1 2 (groups more)
+pub rows_answer : (n : Names) (sig : Signature) (ins : List SortId) (bytes g more : List ℕ) → groups bytes ≡ g ∷ groups more → bytes_eq g proof_line ≡ true → log_answer n sig ins bytes ≡ rows_in n sig ins 1 2 (groups more)
 unfolding log_answer
 rows_answer n sig ins bytes g more s e = ap (rows_behind n sig ins) s ∙ ap (λ (b : Bool). if b then rows_in n sig ins 1 2 (groups more) else at 1 (head_fault g)) e
 
-pub head_answer : (n : Names) (sig : Signature) (ins : List SortId) (bytes g more : List ℕ) → groups bytes ≡ g ∷ groups more → bytes_eq g first_line ≡ false → log_answer n sig ins bytes ≡ a_fault 1 (head_fault g)
+pub head_answer : (n : Names) (sig : Signature) (ins : List SortId) (bytes g more : List ℕ) → groups bytes ≡ g ∷ groups more → bytes_eq g proof_line ≡ false → log_answer n sig ins bytes ≡ a_fault 1 (head_fault g)
 unfolding log_answer
 head_answer n sig ins bytes g more s e = ap (rows_behind n sig ins) s ∙ ap (λ (b : Bool). if b then rows_in n sig ins 1 2 (groups more) else at 1 (head_fault g)) e
 

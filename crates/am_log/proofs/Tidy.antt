@@ -16,9 +16,9 @@ use Rattle.am_text.specs.Spelling.{is_word, written}
 use Rattle.am_text.proofs.Folds.{written-Word, written-Number, written-List, written-form}
 use Rattle.am_log.proofs.Digits.{own}
 use Rattle.am_syntax.specs.Forms.{word_form, list_form, all_true}
-use Rattle.am_log.specs.Cut.{longest, cut, joined, reach}
+use Rattle.am_log.specs.Cut.{longest, cut, pieced_together, reach}
 use Rattle.am_log.specs.Groups.{is_inside}
-use Rattle.am_log.specs.Spelled.{number_form, fits}
+use Rattle.am_log.specs.Spelled.{number_form, is_u32}
 use Rattle.am_log.proofs.Cutting.{cut_stops, cut_goes_on, longest_within}
 use Rattle.am_log.proofs.WordsOf.{small}
 
@@ -86,7 +86,7 @@ neat f = tidy true (written f)
 pub word_neat : (w : List ℕ) → is_word w ≡ true → neat (word_form w) ≡ true
 word_neat w e = ap (tidy true) (written-form 0 (node.Word w) ∙ written-Word w) ∙ word_tidy w e
 
-pub number_neat : (n : ℕ) → fits n ≡ true → neat (number_form n) ≡ true
+pub number_neat : (n : ℕ) → is_u32 n ≡ true → neat (number_form n) ≡ true
 number_neat n e = ap (tidy true) (written-form 0 (node.Number (pos n)) ∙ written-Number (pos n)) ∙ decimal_tidy n (small n e)
 
 loose_step : (t : Bool) (b : ℕ) (bs : List ℕ) → (if t then false else is_inside b && tidy false bs) ≡ true → (if t then tidy true bs else is_inside b && tidy false bs) ≡ true
@@ -148,16 +148,16 @@ some_piece : (w b : ℕ) (bs : List ℕ) → tidy false (b ∷ bs) ≡ true → 
 unfolding longest
 some_piece w b bs e = first_some w b bs (b == 32) refl e
 
-join_within : (w m : ℕ) (t : List ℕ) → length t ≤ m → tidy false t ≡ true → joined (cut (suc (suc w)) t) ≡ t
-join_within w m [] l e = ap joined (cut_stops (suc (suc w)) [] (let k = longest_within (suc (suc w)) [] in omega (arith, k)))
+join_within : (w m : ℕ) (t : List ℕ) → length t ≤ m → tidy false t ≡ true → pieced_together (cut (suc (suc w)) t) ≡ t
+join_within w m [] l e = ap pieced_together (cut_stops (suc (suc w)) [] (let k = longest_within (suc (suc w)) [] in omega (arith, k)))
 join_within w zero (b ∷ bs) l e = absurd (omega (arith, l))
 join_within w (suc m) (b ∷ bs) l e =
     let s = some_piece w b bs e in
-    ap joined (cut_goes_on (suc (suc w)) (b ∷ bs) s)
+    ap pieced_together (cut_goes_on (suc (suc w)) (b ∷ bs) s)
     ∙ ap (λ (z : List ℕ). take (longest (suc (suc w)) (b ∷ bs)) (b ∷ bs) ++ z) (join_within w m (drop (longest (suc (suc w)) (b ∷ bs)) (b ∷ bs)) (omega (arith, length-drop (longest (suc (suc w)) (b ∷ bs)) (b ∷ bs), s, l)) (rest_tidy (suc (suc w)) (b ∷ bs) false e s))
     ∙ take-append-drop (longest (suc (suc w)) (b ∷ bs)) (b ∷ bs)
 
-pub tidy_joined : (w : ℕ) (t : List ℕ) → tidy true t ≡ true → joined (cut (suc (suc w)) t) ≡ t
+pub tidy_joined : (w : ℕ) (t : List ℕ) → tidy true t ≡ true → pieced_together (cut (suc (suc w)) t) ≡ t
 tidy_joined w t e = join_within w (length t) t (omega arith) (either false t e)
 
 -- ---- a tidy text is one line

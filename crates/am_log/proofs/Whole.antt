@@ -19,18 +19,18 @@ use Rattle.am_log.proofs.Writable.{row_writable}
 use Rattle.am_clause.specs.declared.row.Row.{Row}
 use Rattle.am_theory.specs.declared.theory.Theory.{Theory}
 use Rattle.am_diagram.specs.declared.diagram.Diagram.{Diagram}
-use Rattle.am_diagram.specs.Listed.{sorts_in}
+use Rattle.am_diagram.specs.Listed.{entry_sorts}
 use Rattle.am_log.specs.declared.fault.LogKind.{LogKind}
 use Rattle.am_log.specs.declared.fault.LogKind.TheVariants.{BadNumber, UnknownName, BadSort}
 use Rattle.am_log.specs.declared.named.NamedRow.{NamedRow}
-use Rattle.am_log.specs.Cut.{width, cut, joined, further_lines, piece_lines, wrapped}
+use Rattle.am_log.specs.Cut.{width, cut, pieced_together, further_lines, piece_lines, wrapped}
 use Rattle.am_log.specs.Groups.{groups, onto_first, ends_group, Wraps}
-use Rattle.am_log.specs.Unwrapped.{group_text}
-use Rattle.am_log.specs.Spelled.{Spells, is_named_row, row_form, row_text, depth_limit}
-use Rattle.am_log.specs.Naming.{Names, names_in, named_row, has_unknown_row, resolved_row}
-use Rattle.am_log.specs.Text.{first_line, rows_text, is_sorted_row, byte_limit}
+use Rattle.am_log.specs.Unwrapped.{unwrapped_text}
+use Rattle.am_log.specs.Spelled.{Spells, is_named_row, row_form, row_text, row_depth_limit}
+use Rattle.am_log.specs.Naming.{Names, known_names, named_row, has_unknown_row, resolved_row}
+use Rattle.am_log.specs.Text.{proof_line, rows_text, is_sorted_row, byte_limit}
 use Rattle.am_log.proofs.Spellable.{IsSpellable, AreSpellable}
-use Rattle.am_log.specs.Answers.{if_spelled, row_named, row_or_bad, row_in_text, group_row, at, with_row, rows_in, head_fault, rows_behind, log_answer}
+use Rattle.am_log.specs.Answers.{if_spelled, row_named, row_or_bad, row_in_text, group_row, at, row_before, rows_in, head_fault, rows_behind, log_answer}
 use Rattle.am_log.specs.Faults.{lines_in}
 use Rattle.am_log.proofs.Tidy.{tidy, tidy_joined, tidy_inside}
 use Rattle.am_log.proofs.Neat.{row_neat}
@@ -45,15 +45,15 @@ same_bytes : (a b : List ℕ) → a ≡ b → bytes_eq a b ≡ true
 same_bytes a b e = grind (arith, bytes_eq-Decides a b)
 
 -- ---- the groups of bytes are these bytes
-onto_joined : (b : ℕ) (gs : List (List ℕ)) → joined (onto_first b gs) ≡ b ∷ joined gs
+onto_joined : (b : ℕ) (gs : List (List ℕ)) → pieced_together (onto_first b gs) ≡ b ∷ pieced_together gs
 onto_joined b [] = refl
 onto_joined b (g ∷ gs) = refl
 
-joined_step : (t : Bool) (b : ℕ) (gs : List (List ℕ)) (bs : List ℕ) → joined gs ≡ bs → joined (if t then (b ∷ []) ∷ gs else onto_first b gs) ≡ b ∷ bs
+joined_step : (t : Bool) (b : ℕ) (gs : List (List ℕ)) (bs : List ℕ) → pieced_together gs ≡ bs → pieced_together (if t then (b ∷ []) ∷ gs else onto_first b gs) ≡ b ∷ bs
 joined_step true b gs bs h = ap (λ (z : List ℕ). b ∷ z) h
 joined_step false b gs bs h = onto_joined b gs ∙ ap (λ (z : List ℕ). b ∷ z) h
 
-pub groups_joined : (bs : List ℕ) → joined (groups bs) ≡ bs
+pub groups_joined : (bs : List ℕ) → pieced_together (groups bs) ≡ bs
 unfolding groups
 groups_joined [] = refl
 groups_joined (b ∷ bs) = joined_step (ends_group b bs) b (groups bs) bs (groups_joined bs)
@@ -106,10 +106,10 @@ a_good r = Ok r
 
 module _ (t : Theory) (d : Diagram) where
   abbrev n : Names
-  n = names_in t d
+  n = known_names t d
 
   abbrev ins : List SortId
-  ins = sorts_in d.inputs
+  ins = entry_sorts d.inputs
 
   good_by : (q r : Row) → q ≡ r → is_sorted_row t.sig ins r ≡ true → (if is_sorted_row t.sig ins q then Ok q else Err BadSort) ≡ a_good r
   good_by q r e h = let z : is_sorted_row t.sig ins q ≡ true = ap (is_sorted_row t.sig ins) e ∙ h in ap (λ (b : Bool). if b then Ok q else Err BadSort) z ∙ ap a_good e
@@ -137,7 +137,7 @@ module _ (t : Theory) (d : Diagram) where
       let is : resolved_row n r ≡ row = cc in
       subst (IsGroupOf k g) is (record {
         lines_are = w.lines_are ∙ ap wrapped (s.text_is ∙ ap row_text (sym back));
-        writable = record { named = ap is_named_row back ∙ s.named; sorted = h; low = subst (λ (x : NamedRow). height (row_form x) ≤ depth_limit) (sym back) s.low };
+        writable = record { named = ap is_named_row back ∙ s.named; sorted = h; low = subst (λ (x : NamedRow). height (row_form x) ≤ row_depth_limit) (sym back) s.low };
       })
 
   known_by : (k : ℕ) (g : List ℕ) (text : List ℕ) (r : NamedRow) (row : Row) (b : Bool) → Wraps g text → Spells text r → r.number ≡ k → has_unknown_row n r ≡ b → (if b then Err UnknownName else (if is_sorted_row t.sig ins (resolved_row n r) then Ok (resolved_row n r) else Err BadSort)) ≡ a_good row → IsGroupOf k g row
@@ -152,13 +152,13 @@ module _ (t : Theory) (d : Diagram) where
   row_by k g text None row w e i = absurd cc
   row_by k g text (Some r) row w e i = numbered_by k g text r row (r.number == k) w (named_found text r e) refl i
 
-  text_by : (k : ℕ) (g : List ℕ) (o : Option (List ℕ)) (row : Row) → group_text g ≡ o → row_in_text n t.sig ins k o ≡ a_good row → IsGroupOf k g row
+  text_by : (k : ℕ) (g : List ℕ) (o : Option (List ℕ)) (row : Row) → unwrapped_text g ≡ o → row_in_text n t.sig ins k o ≡ a_good row → IsGroupOf k g row
   text_by k g None row e i = absurd cc
   text_by k g (Some text) row e i = row_by k g text (row_named text) row (text_found g text e) refl i
 
   pub group_found : (k : ℕ) (g : List ℕ) (row : Row) → group_row n t.sig ins k g ≡ a_good row → IsGroupOf k g row
   unfolding group_row
-  group_found k g row e = text_by k g (group_text g) row refl e
+  group_found k g row e = text_by k g (unwrapped_text g) row refl e
 
   -- ---- all groups
   abbrev some_rows : List Row → Result (List Row) (ℕ × LogKind)
@@ -178,27 +178,27 @@ module _ (t : Theory) (d : Diagram) where
 
   -- the groups are the lines of these rows
   record AreRows (k : ℕ) (gs : List (List ℕ)) (rs : List Row) : Type 0 where
-    pub text : joined gs ≡ rows_text n k rs
+    pub text : pieced_together gs ≡ rows_text n k rs
     pub writable : AreSpellable t d k rs
 
-  found_more : (k j : ℕ) (g : List ℕ) (gs : List (List ℕ)) (x : Result Row LogKind) (y : Result (List Row) (ℕ × LogKind)) (rs : List Row) → group_row n t.sig ins k g ≡ x → rows_in n t.sig ins (k + 1) (j + lines_in g) gs ≡ y → ((qs : List Row) → rows_in n t.sig ins (k + 1) (j + lines_in g) gs ≡ some_rows qs → AreRows (k + 1) gs qs) → with_row j x y ≡ some_rows rs → AreRows k (g ∷ gs) rs
+  found_more : (k j : ℕ) (g : List ℕ) (gs : List (List ℕ)) (x : Result Row LogKind) (y : Result (List Row) (ℕ × LogKind)) (rs : List Row) → group_row n t.sig ins k g ≡ x → rows_in n t.sig ins (k + 1) (j + lines_in g) gs ≡ y → ((qs : List Row) → rows_in n t.sig ins (k + 1) (j + lines_in g) gs ≡ some_rows qs → AreRows (k + 1) gs qs) → row_before j x y ≡ some_rows rs → AreRows k (g ∷ gs) rs
   found_more k j g gs (Err kind) y rs e f law h = absurd cc
   found_more k j g gs (Ok r) (Err z) rs e f law h = absurd cc
   found_more k j g gs (Ok r) (Ok qs) rs e f law h =
       let p = group_found k g r e in
       let q = law qs f in
       let is : r ∷ qs ≡ rs = cc in
-      subst (AreRows k (g ∷ gs)) is (record { text = ap (λ (z : List ℕ). z ++ joined gs) p.lines_are ∙ ap (λ (z : List ℕ). wrapped (row_text (named_row n k r)) ++ z) q.text; writable = (p.writable, q.writable) })
+      subst (AreRows k (g ∷ gs)) is (record { text = ap (λ (z : List ℕ). z ++ pieced_together gs) p.lines_are ∙ ap (λ (z : List ℕ). wrapped (row_text (named_row n k r)) ++ z) q.text; writable = (p.writable, q.writable) })
 
   rows_found : (k j : ℕ) (gs : List (List ℕ)) (rs : List Row) → rows_in n t.sig ins k j gs ≡ some_rows rs → AreRows k gs rs
   rows_found k j [] rs e = let is : [] ≡ rs = cc in subst (AreRows k []) is (record { text = refl; writable = tt })
   rows_found k j (g ∷ gs) rs e = found_more k j g gs (group_row n t.sig ins k g) (rows_in n t.sig ins (k + 1) (j + lines_in g) gs) rs refl refl (λ qs h. rows_found (k + 1) (j + lines_in g) gs qs h) e
 
   -- ---- the groups of a text
-  lead : (t : List ℕ) (rest : List ℕ) → 0 < length t → joined (cut width t) ≡ t → starts_with ◌==◌ (wrapped t ++ rest) (codes "C+") ≡ false
+  lead : (t : List ℕ) (rest : List ℕ) → 0 < length t → pieced_together (cut width t) ≡ t → starts_with ◌==◌ (wrapped t ++ rest) (codes "C+") ≡ false
   lead t rest l e = lead_by (cut width t) t rest l e
     where
-      lead_by : (ps : List (List ℕ)) (t rest : List ℕ) → 0 < length t → joined ps ≡ t → starts_with ◌==◌ (piece_lines ps ++ rest) (codes "C+") ≡ false
+      lead_by : (ps : List (List ℕ)) (t rest : List ℕ) → 0 < length t → pieced_together ps ≡ t → starts_with ◌==◌ (piece_lines ps ++ rest) (codes "C+") ≡ false
       lead_by [] t rest l e = absurd (let y = ap length e in omega (arith, y, l))
       lead_by (p ∷ ps) t rest l e = refl
 
@@ -218,10 +218,10 @@ module _ (t : Theory) (d : Diagram) where
       ∙ ap (λ (gs : List (List ℕ)). wrapped (row_text (named_row n k r)) ∷ gs) (rows_groups (k + 1) rs w.1)
 
   abbrev whole_text : List Row → List ℕ
-  whole_text rs = first_line ++ rows_text n 1 rs
+  whole_text rs = proof_line ++ rows_text n 1 rs
 
-  pub text_groups : (rs : List Row) → AreSpellable t d 1 rs → groups (whole_text rs) ≡ first_line ∷ rows_lines 1 rs
-  text_groups rs w = line_ends (codes "C (proof 1)") (rows_text n 1 rs) refl (rows_lead 1 rs w) ∙ ap (λ (gs : List (List ℕ)). first_line ∷ gs) (rows_groups 1 rs w)
+  pub text_groups : (rs : List Row) → AreSpellable t d 1 rs → groups (whole_text rs) ≡ proof_line ∷ rows_lines 1 rs
+  text_groups rs w = line_ends (codes "C (proof 1)") (rows_text n 1 rs) refl (rows_lead 1 rs w) ∙ ap (λ (gs : List (List ℕ)). proof_line ∷ gs) (rows_groups 1 rs w)
 
   -- the bytes of a text are answered by its rows
   pub log_again : (bytes : List ℕ) (rs : List Row) → Apart n → AreSpellable t d 1 rs → Short 1 rs → bytes ≡ whole_text rs → log_answer n t.sig ins bytes ≡ some_rows rs
@@ -233,15 +233,15 @@ module _ (t : Theory) (d : Diagram) where
     pub text : bytes ≡ whole_text rs
     pub writable : AreSpellable t d 1 rs
 
-  behind_by : (g : List ℕ) (gs : List (List ℕ)) (rs : List Row) (b : Bool) → bytes_eq g first_line ≡ b → (if b then rows_in n t.sig ins 1 2 gs else at 1 (head_fault g)) ≡ some_rows rs → (joined (g ∷ gs) ≡ whole_text rs) × AreSpellable t d 1 rs
+  behind_by : (g : List ℕ) (gs : List (List ℕ)) (rs : List Row) (b : Bool) → bytes_eq g proof_line ≡ b → (if b then rows_in n t.sig ins 1 2 gs else at 1 (head_fault g)) ≡ some_rows rs → (pieced_together (g ∷ gs) ≡ whole_text rs) × AreSpellable t d 1 rs
   behind_by g gs rs false e h = absurd cc
   behind_by g gs rs true e h =
       let r = rows_found 1 2 gs rs h in
-      (ap (λ (z : List ℕ). z ++ joined gs) (equal_bytes g first_line e) ∙ ap (λ (z : List ℕ). first_line ++ z) r.text, r.writable)
+      (ap (λ (z : List ℕ). z ++ pieced_together gs) (equal_bytes g proof_line e) ∙ ap (λ (z : List ℕ). proof_line ++ z) r.text, r.writable)
 
-  behind_found : (gs : List (List ℕ)) (rs : List Row) → rows_behind n t.sig ins gs ≡ some_rows rs → (joined gs ≡ whole_text rs) × AreSpellable t d 1 rs
+  behind_found : (gs : List (List ℕ)) (rs : List Row) → rows_behind n t.sig ins gs ≡ some_rows rs → (pieced_together gs ≡ whole_text rs) × AreSpellable t d 1 rs
   behind_found [] rs h = absurd cc
-  behind_found (g ∷ gs) rs h = behind_by g gs rs (bytes_eq g first_line) refl h
+  behind_found (g ∷ gs) rs h = behind_by g gs rs (bytes_eq g proof_line) refl h
 
   pub log_found : (bytes : List ℕ) (rs : List Row) → log_answer n t.sig ins bytes ≡ some_rows rs → IsText bytes rs
   unfolding log_answer
@@ -252,7 +252,7 @@ module _ (t : Theory) (d : Diagram) where
   wrapped_one r q e f h =
       let a = text_again (wrapped (row_text r)) (row_text r) (row_wraps r e) in
       let b = text_again (wrapped (row_text q)) (row_text q) (row_wraps q f) in
-      let c : group_text (wrapped (row_text r)) ≡ group_text (wrapped (row_text q)) = ap group_text h in
+      let c : unwrapped_text (wrapped (row_text r)) ≡ unwrapped_text (wrapped (row_text q)) = ap unwrapped_text h in
       let same : row_text r ≡ row_text q = cc in
       one_text r q e f same
 
@@ -270,30 +270,30 @@ module _ (t : Theory) (d : Diagram) where
 
   pub logs_one : (rs qs : List Row) → Apart n → AreSpellable t d 1 rs → AreSpellable t d 1 qs → whole_text rs ≡ whole_text qs → rs ≡ qs
   logs_one rs qs a v w e =
-      let g : first_line ∷ rows_lines 1 rs ≡ first_line ∷ rows_lines 1 qs = sym (text_groups rs v) ∙ ap groups e ∙ text_groups qs w in
+      let g : proof_line ∷ rows_lines 1 rs ≡ proof_line ∷ rows_lines 1 qs = sym (text_groups rs v) ∙ ap groups e ∙ text_groups qs w in
       let h : rows_lines 1 rs ≡ rows_lines 1 qs = cc in
       rows_one 1 rs qs a v w h
 
   -- ---- a text is as long as its rows at least
-  further_length : (ps : List (List ℕ)) → length (joined ps) ≤ length (further_lines ps)
+  further_length : (ps : List (List ℕ)) → length (pieced_together ps) ≤ length (further_lines ps)
   further_length [] = omega arith
-  further_length (p ∷ ps) = let h = further_length ps in omega (arith, h, length-append p (joined ps), length-append p (10 ∷ further_lines ps))
+  further_length (p ∷ ps) = let h = further_length ps in omega (arith, h, length-append p (pieced_together ps), length-append p (10 ∷ further_lines ps))
 
-  piece_length : (ps : List (List ℕ)) → length (joined ps) ≤ length (piece_lines ps)
+  piece_length : (ps : List (List ℕ)) → length (pieced_together ps) ≤ length (piece_lines ps)
   piece_length [] = omega arith
-  piece_length (p ∷ ps) = let h = further_length ps in omega (arith, h, length-append p (joined ps), length-append p (10 ∷ further_lines ps))
+  piece_length (p ∷ ps) = let h = further_length ps in omega (arith, h, length-append p (pieced_together ps), length-append p (10 ∷ further_lines ps))
 
   rows_short : (k : ℕ) (rs : List Row) → AreSpellable t d k rs → length (rows_text n k rs) ≤ byte_limit → Short k rs
   rows_short k [] w l = tt
   rows_short k (r ∷ rs) w l =
       let f = row_wraps (named_row n k r) w.0.named in
       let g = piece_length (cut width (row_text (named_row n k r))) in
-      let e : length (joined (cut width (row_text (named_row n k r)))) ≡ length (row_text (named_row n k r)) = ap length f.whole in
+      let e : length (pieced_together (cut width (row_text (named_row n k r)))) ≡ length (row_text (named_row n k r)) = ap length f.whole in
       let s : length (wrapped (row_text (named_row n k r)) ++ rows_text n (k + 1) rs) ≡ length (wrapped (row_text (named_row n k r))) + length (rows_text n (k + 1) rs) = length-append (wrapped (row_text (named_row n k r))) (rows_text n (k + 1) rs) in
       (omega (arith, g, e, s, l), rows_short (k + 1) rs w.1 (omega (arith, s, l)))
 
   pub text_again_in : (bytes : List ℕ) (rs : List Row) → Apart n → AreSpellable t d 1 rs → length bytes ≤ byte_limit → bytes ≡ whole_text rs → log_answer n t.sig ins bytes ≡ some_rows rs
   text_again_in bytes rs a w l e =
-      let s : length (first_line ++ rows_text n 1 rs) ≡ length first_line + length (rows_text n 1 rs) = length-append first_line (rows_text n 1 rs) in
-      let z : length bytes ≡ length (first_line ++ rows_text n 1 rs) = ap length e in
+      let s : length (proof_line ++ rows_text n 1 rs) ≡ length proof_line + length (rows_text n 1 rs) = length-append proof_line (rows_text n 1 rs) in
+      let z : length bytes ≡ length (proof_line ++ rows_text n 1 rs) = ap length e in
       log_again bytes rs a w (rows_short 1 rs w (omega (arith, s, z, l))) e

@@ -16,7 +16,7 @@ use Rattle.am_text.specs.Spelling.{is_word}
 use Rattle.am_log.proofs.Digits.{own}
 use Rattle.am_log.proofs.Digits.{number_again}
 use Rattle.am_log.specs.declared.named.NamedTerm.TheVariants.{Variable, Alone}
-use Rattle.am_log.specs.Spelled.{is_row_name, fits, variable_word}
+use Rattle.am_log.specs.Spelled.{is_row_name, is_u32, variable_word}
 use Rattle.am_log.specs.Guess.{is_mark, word_guess}
 use Rattle.am_log.proofs.GuessSteps.{marked_word, unmarked_word}
 
@@ -134,10 +134,10 @@ number_bytes n h = all_pass is_ascii_digit is_word_byte digit_word_byte (decimal
 number_length : (n : ℕ) → n < 2 ^ 32 → length (63 ∷ decimal n) ≤ 17
 number_length n h = let l = length-decimal-le 10 n (omega arith) (omega arith) (omega arith) in omega (arith, l)
 
-pub small : (n : ℕ) → fits n ≡ true → n < 2 ^ 32
+pub small : (n : ℕ) → is_u32 n ≡ true → n < 2 ^ 32
 small n e = ltb-true n (2 ^ 32) e
 
-pub variable_is_word : (s : List ℕ) (n : ℕ) → is_row_name s ≡ true → fits n ≡ true → is_word (variable_word s n) ≡ true
+pub variable_is_word : (s : List ℕ) (n : ℕ) → is_row_name s ≡ true → is_u32 n ≡ true → is_word (variable_word s n) ≡ true
 variable_is_word s n e f = word_from s (63 ∷ decimal n) (plain s e) (number_bytes n (small n f)) (number_length n (small n f))
 
 -- ---- guesses
@@ -165,7 +165,7 @@ drop_front (x ∷ xs) d b =
     let e : length (x ∷ xs) + 1 ≡ suc (length xs + 1) = omega arith in
     ap (λ (k : ℕ). drop k (x ∷ xs ++ b ∷ d)) e ∙ drop_front xs d b
 
-pub variable_guess : (s : List ℕ) (n : ℕ) → is_row_name s ≡ true → fits n ≡ true → word_guess (variable_word s n) ≡ Variable s n
+pub variable_guess : (s : List ℕ) (n : ℕ) → is_row_name s ≡ true → is_u32 n ≡ true → word_guess (variable_word s n) ≡ Variable s n
 variable_guess s n e f =
     let at : position_or_len is_mark (variable_word s n) ≡ length s = mark_after s (decimal n) (plain s e).unmarked in
     let size : length (variable_word s n) ≡ length s + length (63 ∷ decimal n) = length-append s (63 ∷ decimal n) in

@@ -9,9 +9,9 @@ use Rattle.am_log.specs.declared.fault.LogKind.TheVariants.{NotProof, BadWrap, B
 use Rattle.am_log.specs.declared.named.NamedRow.{NamedRow}
 use Rattle.am_log.specs.Spelled.{is_named_row, row_text}
 use Rattle.am_log.specs.Naming.{Names, has_unknown_row, resolved_row}
-use Rattle.am_log.specs.Text.{is_sorted_row, first_line}
+use Rattle.am_log.specs.Text.{is_sorted_row, proof_line}
 use Rattle.am_log.specs.Groups.{groups}
-use Rattle.am_log.specs.Unwrapped.{group_text}
+use Rattle.am_log.specs.Unwrapped.{unwrapped_text}
 use Rattle.am_log.specs.Guess.{guess_text}
 use Rattle.am_log.specs.Faults.{head_line, lines_in}
 
@@ -40,25 +40,25 @@ row_in_text n sig ins k (Some t) = row_or_bad n sig ins k (row_named t)
 
 -- the row of this number that a group is, or the first kind of fault that holds of it
 unfoldable pub group_row : Names → Signature → List SortId → ℕ → List ℕ → Result Row LogKind
-group_row n sig ins k g = row_in_text n sig ins k (group_text g)
+group_row n sig ins k g = row_in_text n sig ins k (unwrapped_text g)
 
 -- a fault at the group that begins with this line
 abbrev pub at : {A : Type 0} → ℕ → LogKind → Result A (ℕ × LogKind)
 at l kind = Err (l, kind)
 
-abbrev pub with_row : ℕ → Result Row LogKind → Result (List Row) (ℕ × LogKind) → Result (List Row) (ℕ × LogKind)
-with_row l (Err kind) rest = at l kind
-with_row l (Ok r) (Err e) = Err e
-with_row l (Ok r) (Ok rs) = Ok (r ∷ rs)
+abbrev pub row_before : ℕ → Result Row LogKind → Result (List Row) (ℕ × LogKind) → Result (List Row) (ℕ × LogKind)
+row_before l (Err kind) rest = at l kind
+row_before l (Ok r) (Err e) = Err e
+row_before l (Ok r) (Ok rs) = Ok (r ∷ rs)
 
 -- the rows numbered from k, of which the first begins with line l, or the first fault
 abbrev pub rows_in : Names → Signature → List SortId → ℕ → ℕ → List (List ℕ) → Result (List Row) (ℕ × LogKind)
 rows_in n sig ins k l [] = Ok []
-rows_in n sig ins k l (g ∷ gs) = with_row l (group_row n sig ins k g) (rows_in n sig ins (k + 1) (l + lines_in g) gs)
+rows_in n sig ins k l (g ∷ gs) = row_before l (group_row n sig ins k g) (rows_in n sig ins (k + 1) (l + lines_in g) gs)
 
 -- the first line is that of a proof
-abbrev pub is_headed : List ℕ → Bool
-is_headed g = bytes_eq (head_line g) (codes "C (proof 1)")
+abbrev pub begins_proof : List ℕ → Bool
+begins_proof g = bytes_eq (head_line g) (codes "C (proof 1)")
 
 abbrev pub wrong_head : Option (List ℕ) → LogKind
 wrong_head None = BadWrap
@@ -66,11 +66,11 @@ wrong_head (Some t) = BadRow
 
 -- the first group: its first line is that of a proof, and there is no further one
 abbrev pub head_fault : List ℕ → LogKind
-head_fault g = if is_headed g then wrong_head (group_text g) else NotProof
+head_fault g = if begins_proof g then wrong_head (unwrapped_text g) else NotProof
 
 abbrev pub rows_behind : Names → Signature → List SortId → List (List ℕ) → Result (List Row) (ℕ × LogKind)
 rows_behind n sig ins [] = at 1 NotProof
-rows_behind n sig ins (g ∷ gs) = if bytes_eq g first_line then rows_in n sig ins 1 2 gs else at 1 (head_fault g)
+rows_behind n sig ins (g ∷ gs) = if bytes_eq g proof_line then rows_in n sig ins 1 2 gs else at 1 (head_fault g)
 
 -- the rows that the bytes are the text of, or the first line of the first bad group and the first kind that holds there
 unfoldable pub log_answer : Names → Signature → List SortId → List ℕ → Result (List Row) (ℕ × LogKind)

@@ -28,9 +28,9 @@ unfoldable pub cut : ℕ → List ℕ → List (List ℕ)
 cut w t = cut_within w (length t) t
 
 -- the texts one behind another
-abbrev pub joined : List (List ℕ) → List ℕ
-joined [] = []
-joined (p ∷ ps) = p ++ joined ps
+abbrev pub pieced_together : List (List ℕ) → List ℕ
+pieced_together [] = []
+pieced_together (p ∷ ps) = p ++ pieced_together ps
 
 -- ---- the rule of the cut, as a condition on pieces
 -- whether the last byte is a blank, behind a blank or behind something else

@@ -5,13 +5,13 @@ use Rattle.am_term.specs.declared.id.SortId.{SortId}
 use Rattle.am_term.specs.declared.signature.Signature.{Signature}
 use Rattle.am_theory.specs.declared.theory.Theory.{Theory}
 use Rattle.am_diagram.specs.declared.diagram.Diagram.{Diagram}
-use Rattle.am_diagram.specs.Listed.{sorts_in}
+use Rattle.am_diagram.specs.Listed.{entry_sorts}
 use Rattle.am_log.specs.declared.fault.LogKind.{LogKind}
 use Rattle.am_log.specs.declared.fault.LogKind.TheVariants.{NotProof, BadWrap, BadRow, BadNumber, UnknownName, BadSort, NoMemory}
 use Rattle.am_log.specs.declared.named.NamedRow.{NamedRow}
 use Rattle.am_log.specs.Groups.{groups, is_inside, Wraps, WrapsNothing}
 use Rattle.am_log.specs.Spelled.{Spells, SpellsNothing}
-use Rattle.am_log.specs.Naming.{Names, names_in, has_unknown_row, resolved_row}
+use Rattle.am_log.specs.Naming.{Names, known_names, has_unknown_row, resolved_row}
 use Rattle.am_log.specs.Text.{is_sorted_row}
 
 -- ---- the first group, which is to be the line `C (proof 1)`
@@ -33,7 +33,7 @@ HoldsOfHead g NoMemory = ⊥
 
 -- ---- the other groups, which are to be the rows by their numbers
 -- the group is the lines of a text that is spelled as this row by names
-pub record Reads (g : List ℕ) (r : NamedRow) : Type 0 where
+pub record ReadsRow (g : List ℕ) (r : NamedRow) : Type 0 where
   pub text : List ℕ
   pub wraps : Wraps g text
   pub spells : Spells text r
@@ -49,16 +49,16 @@ HasBadRow g = (t : List ℕ) × Wraps g t × SpellsNothing t
 
 -- bad row number: the group is spelled as a row, and its number isn't the next
 abbrev pub HasBadNumber : ℕ → List ℕ → Type 0
-HasBadNumber k g = (r : NamedRow) × Reads g r × (r.number ≢ k)
+HasBadNumber k g = (r : NamedRow) × ReadsRow g r × (r.number ≢ k)
 
 -- unknown name: the name before a `?` is no sort; the head of a list, or a name alone in an atom's place, is no symbol; a
 -- name alone in a term's place is neither an input nor a symbol
 abbrev pub HasUnknownName : Names → List ℕ → Type 0
-HasUnknownName n g = (r : NamedRow) × Reads g r × (has_unknown_row n r ≡ true)
+HasUnknownName n g = (r : NamedRow) × ReadsRow g r × (has_unknown_row n r ≡ true)
 
 -- bad sort: a term or an atom isn't well sorted
 abbrev pub HasBadSort : Names → Signature → List SortId → List ℕ → Type 0
-HasBadSort n sig ins g = (r : NamedRow) × Reads g r × (is_sorted_row sig ins (resolved_row n r) ≡ false)
+HasBadSort n sig ins g = (r : NamedRow) × ReadsRow g r × (is_sorted_row sig ins (resolved_row n r) ≡ false)
 
 -- the kind holds of the group that is to be the row of this number
 abbrev pub HoldsOfRow : Names → Signature → List SortId → ℕ → List ℕ → LogKind → Type 0
@@ -107,5 +107,5 @@ line_at gs k = 1 + sum_by lines_in (take k gs)
 -- the first fault of the text is of this kind, and stands at the group that begins with this line
 pub record IsFault (t : Theory) (d : Diagram) (bytes : List ℕ) (line : ℕ) (kind : LogKind) : Type 0 where
   pub place : ℕ
-  pub at : IsFirst (names_in t d) t.sig (sorts_in d.inputs) (groups bytes) place kind
+  pub at : IsFirst (known_names t d) t.sig (entry_sorts d.inputs) (groups bytes) place kind
   pub begins : line ≡ line_at (groups bytes) place

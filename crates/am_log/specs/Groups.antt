@@ -1,7 +1,7 @@
 -- The groups of a proof's bytes, and of which text a group is the lines.
 use Rattle.std.specs.Prelude.{◌≡◌, ◌&&◌, ◌==◌, ℕ, Bool, true, not, List, [], ◌∷◌, codes, if◌then◌else◌}
 use Rattle.std.specs.List.{starts_with, list_all}
-use Rattle.am_log.specs.Cut.{wrapped, cut, width, joined}
+use Rattle.am_log.specs.Cut.{wrapped, cut, width, pieced_together}
 
 -- a group ends behind a byte 10 after which no `C+` stands
 abbrev pub ends_group : ℕ → List ℕ → Bool
@@ -24,7 +24,7 @@ is_inside b = not (b == 10)
 -- first of them behind `C `, the others behind `C+`, each line ended.
 pub record Wraps (group text : List ℕ) : Type 0 where
   pub inside : list_all is_inside text ≡ true
-  pub whole : joined (cut width text) ≡ text
+  pub whole : pieced_together (cut width text) ≡ text
   pub lines_are : group ≡ wrapped text
 
 -- the group is the lines of no text

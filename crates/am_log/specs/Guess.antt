@@ -1,6 +1,6 @@
 -- For private contracts: the row by names that a form or a text may spell. Whether it does shows when its text is
 -- written and compared, so what is out of place is taken as it comes.
-use Rattle.std.specs.Prelude.{◌==◌, ◌&&◌, ◌+◌, ◌-◌, ◌*◌, ◌^◌, Result, Ok, Err, ℕ, ℤ, pos, negsuc, Bool, true, false, Option, Some, None, List, [], ◌∷◌, map, codes, length, nat_lt, drop, slice_get, if◌then◌else◌}
+use Rattle.std.specs.Prelude.{◌==◌, ◌&&◌, ◌-◌, ◌^◌, Result, Ok, Err, ℕ, ℤ, pos, negsuc, Bool, true, false, Option, Some, None, List, [], ◌∷◌, map, codes, length, nat_lt, drop, slice_get, if◌then◌else◌}
 use Rattle.std.specs.Char.{is_ascii_digit}
 use Rattle.std.specs.List.{before_first, after_first, list_all, position_or_len}
 use Rattle.std.specs.Str.{bytes_eq}
@@ -11,6 +11,7 @@ use Rattle.am_text.specs.declared.form.FormNode.TheOpen.{FormNode-F, Form-F}
 use Rattle.am_text.specs.declared.form.FormNode.TheFolds.{fold-Form, fold-FormNode}
 use Rattle.am_text.specs.declared.form.FormNode.TheViews.{out-FormNode}
 use Rattle.am_text.specs.Scan.{read}
+use Rattle.am_text.specs.Atoms.{read_on}
 use Rattle.am_clause.specs.declared.row.Rule.{Rule}
 use Rattle.am_clause.specs.declared.row.Rule.TheVariants as rule
 use Rattle.am_clause.specs.declared.row.Side.{Side}
@@ -21,36 +22,31 @@ use Rattle.am_log.specs.declared.named.NamedAtom.{NamedAtom}
 use Rattle.am_log.specs.declared.named.NamedAtom.TheVariants.{Equation, Relation}
 use Rattle.am_log.specs.declared.named.NamedLiteral.{NamedLiteral}
 use Rattle.am_log.specs.declared.named.NamedRow.{NamedRow}
-use Rattle.am_log.specs.Spelled.{depth_limit}
+use Rattle.am_log.specs.Spelled.{row_depth_limit}
 use Rattle.am_log.specs.Text.{byte_limit}
 
 -- ---- numbers
--- the number that digits stand for, behind the digits of n
-abbrev pub read_on : ℕ → List ℕ → ℕ
-read_on n [] = n
-read_on n (c ∷ cs) = read_on (10 * n + (c - 48)) cs
-
 -- digits below 2 ^ 32
-unfoldable pub number_of : List ℕ → ℕ
-number_of word = if list_all is_ascii_digit word && nat_lt (read_on 0 word) (2 ^ 32) then read_on 0 word else 0
+unfoldable pub number_in_word : List ℕ → ℕ
+number_in_word word = if list_all is_ascii_digit word && nat_lt (read_on 0 word) (2 ^ 32) then read_on 0 word else 0
 
 -- ---- what a form is: the empty word, the number 0, the empty list where it is something else
-abbrev pub word_at : FormNode-F FormNode Form → List ℕ
-word_at (FormNode-F.Word w) = w
-word_at (FormNode-F.Number n) = []
-word_at (FormNode-F.Text t) = []
-word_at (FormNode-F.List fs) = []
+abbrev pub word_or_empty : FormNode-F FormNode Form → List ℕ
+word_or_empty (FormNode-F.Word w) = w
+word_or_empty (FormNode-F.Number n) = []
+word_or_empty (FormNode-F.Text t) = []
+word_or_empty (FormNode-F.List fs) = []
 
 -- a number below 2 ^ 32
 abbrev pub small_value : ℤ → ℕ
 small_value (pos n) = if nat_lt n (2 ^ 32) then n else 0
 small_value (negsuc n) = 0
 
-abbrev pub number_at : FormNode-F FormNode Form → ℕ
-number_at (FormNode-F.Word w) = 0
-number_at (FormNode-F.Number n) = small_value n
-number_at (FormNode-F.Text t) = 0
-number_at (FormNode-F.List fs) = 0
+abbrev pub small_number_at : FormNode-F FormNode Form → ℕ
+small_number_at (FormNode-F.Word w) = 0
+small_number_at (FormNode-F.Number n) = small_value n
+small_number_at (FormNode-F.Text t) = 0
+small_number_at (FormNode-F.List fs) = 0
 
 abbrev pub members_at : FormNode-F FormNode Form → List Form
 members_at (FormNode-F.Word w) = []
@@ -59,10 +55,10 @@ members_at (FormNode-F.Text t) = []
 members_at (FormNode-F.List fs) = fs
 
 unfoldable pub word_in : Form → List ℕ
-word_in f = word_at (out-FormNode f.node)
+word_in f = word_or_empty (out-FormNode f.node)
 
 unfoldable pub number_in : Form → ℕ
-number_in f = number_at (out-FormNode f.node)
+number_in f = small_number_at (out-FormNode f.node)
 
 unfoldable pub members_in : Form → List Form
 members_in f = members_at (out-FormNode f.node)
@@ -75,7 +71,7 @@ is_mark b = b == 63
 unfoldable pub word_guess : List ℕ → NamedTerm
 word_guess w =
     if nat_lt (position_or_len is_mark w) (length w)
-    then Variable (before_first is_mark w) (number_of (after_first is_mark w))
+    then Variable (before_first is_mark w) (number_in_word (after_first is_mark w))
     else Alone w
 
 -- the word of a form, and the term
@@ -83,20 +79,20 @@ pub record Guessed : Type 0 where
   pub word : List ℕ
   pub term : NamedTerm
 
-abbrev pub nothing : Guessed
-nothing = record { word = []; term = Alone [] }
+abbrev pub no_guess : Guessed
+no_guess = record { word = []; term = Alone [] }
 
-abbrev pub terms_of : List Guessed → List NamedTerm
-terms_of = map (λ (g : Guessed). g.term)
+abbrev pub guessed_terms : List Guessed → List NamedTerm
+guessed_terms = map (λ (g : Guessed). g.term)
 
 abbrev pub list_guess : List Guessed → Guessed
-list_guess [] = nothing
-list_guess (g ∷ gs) = record { word = []; term = Headed g.word (terms_of gs) }
+list_guess [] = no_guess
+list_guess (g ∷ gs) = record { word = []; term = Headed g.word (guessed_terms gs) }
 
 abbrev pub guess_step : FormNode-F Guessed Guessed → Guessed
 guess_step (FormNode-F.Word w) = record { word = w; term = word_guess w }
-guess_step (FormNode-F.Number n) = nothing
-guess_step (FormNode-F.Text t) = nothing
+guess_step (FormNode-F.Number n) = no_guess
+guess_step (FormNode-F.Text t) = no_guess
 guess_step (FormNode-F.List gs) = list_guess gs
 
 abbrev pub form_guess : Form-F Guessed Guessed → Guessed
@@ -124,13 +120,13 @@ atom_from w (h ∷ fs) = if bytes_eq (word_in h) (codes "=") then equation_guess
 unfoldable pub guess_atom : Form → NamedAtom
 guess_atom f = atom_from (word_in f) (members_in f)
 
-abbrev pub with_sign : Bool → NamedAtom → NamedLiteral
-with_sign sign a = record { positive = sign; atom = a }
+abbrev pub signed_literal : Bool → NamedAtom → NamedLiteral
+signed_literal sign a = record { positive = sign; atom = a }
 
 abbrev pub literal_from : Form → List Form → NamedLiteral
-literal_from f [] = with_sign true (guess_atom f)
-literal_from f (h ∷ []) = with_sign true (guess_atom f)
-literal_from f (h ∷ a ∷ more) = if bytes_eq (word_in h) (codes "not") then with_sign false (guess_atom a) else with_sign true (guess_atom f)
+literal_from f [] = signed_literal true (guess_atom f)
+literal_from f (h ∷ []) = signed_literal true (guess_atom f)
+literal_from f (h ∷ a ∷ more) = if bytes_eq (word_in h) (codes "not") then signed_literal false (guess_atom a) else signed_literal true (guess_atom f)
 
 unfoldable pub guess_literal : Form → NamedLiteral
 guess_literal f = literal_from f (members_in f)
@@ -228,4 +224,4 @@ guess_from (Err e) = None
 
 -- the guess of the one form that the text is
 unfoldable pub guess_text : List ℕ → Option NamedRow
-guess_text t = guess_from (read byte_limit depth_limit t)
+guess_text t = guess_from (read byte_limit row_depth_limit t)

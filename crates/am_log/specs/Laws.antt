@@ -7,10 +7,10 @@ use Rattle.am_theory.specs.Facts.{WellFormed}
 use Rattle.am_diagram.specs.declared.diagram.Diagram.{Diagram}
 use Rattle.am_diagram.specs.Facts.{WellFormed as WellDrawn}
 use Rattle.am_log.specs.declared.fault.LogKind.{LogKind}
-use Rattle.am_log.specs.Cut.{cut, width, joined, wrapped, IsCut}
+use Rattle.am_log.specs.Cut.{cut, width, pieced_together, wrapped, IsCut}
 use Rattle.am_log.specs.Faults.{IsFault}
 use Rattle.am_log.specs.Groups.{Wraps}
-use Rattle.am_log.specs.Naming.{names_in, named_row}
+use Rattle.am_log.specs.Naming.{known_names, named_row}
 use Rattle.am_log.specs.Spelled.{row_text}
 use Rattle.am_log.specs.Split.{begin_without_c, IsSplit}
 use Rattle.am_log.specs.Text.{byte_limit, log_text, HasText, IsWritable}
@@ -30,9 +30,9 @@ EachIsLogOrFault = (t : Theory) (d : Diagram) (bytes : List ℕ) → WellFormed 
 -- The pieces of the cut, where they join to the text, keep the rule; no other pieces keep it; and pieces that keep it
 -- join to the text.
 pub record IsTheCut (w : ℕ) (t : List ℕ) : Type 0 where
-  pub keeps : joined (cut w t) ≡ t → IsCut w t (cut w t)
+  pub keeps : pieced_together (cut w t) ≡ t → IsCut w t (cut w t)
   pub only : (ps : List (List ℕ)) → IsCut w t ps → ps ≡ cut w t
-  pub joins : (ps : List (List ℕ)) → IsCut w t ps → joined ps ≡ t
+  pub joins : (ps : List (List ℕ)) → IsCut w t ps → pieced_together ps ≡ t
 
 abbrev pub CutKeepsTheRule : Type 0
 CutKeepsTheRule = (w : ℕ) (t : List ℕ) → IsTheCut w t
@@ -40,7 +40,7 @@ CutKeepsTheRule = (w : ℕ) (t : List ℕ) → IsTheCut w t
 -- the text of each row that may be written has pieces that keep the rule, on one line in front of the cut
 abbrev pub RowsAreCut : Type 0
 RowsAreCut = (t : Theory) (d : Diagram) (k : ℕ) (r : Row) → WellFormed t → WellDrawn t d → IsWritable t d k r →
-    IsCut width (row_text (named_row (names_in t d) k r)) (cut width (row_text (named_row (names_in t d) k r))) × Wraps (wrapped (row_text (named_row (names_in t d) k r))) (row_text (named_row (names_in t d) k r))
+    IsCut width (row_text (named_row (known_names t d) k r)) (cut width (row_text (named_row (known_names t d) k r))) × Wraps (wrapped (row_text (named_row (known_names t d) k r))) (row_text (named_row (known_names t d) k r))
 
 -- a text has one proof part and one unit part
 abbrev pub OneSplit : Type 0

@@ -65,8 +65,8 @@ abbrev pub literal_form : NamedLiteral → Form
 literal_form l = signed_form l.positive (atom_form l.atom)
 
 -- `(with` and each term after a blank, `)`
-abbrev pub with_form : List NamedTerm → Form
-with_form ts = headed_form (codes "with") (map term_form ts)
+abbrev pub bindings_form : List NamedTerm → Form
+bindings_form ts = headed_form (codes "with") (map term_form ts)
 
 abbrev pub side_form : Side → Form
 side_form Left = word_form (codes "left")
@@ -112,7 +112,7 @@ rows_bound (rule.Rewrite p j side q i path) = 2
 rows_bound (rule.Close p) = 1
 
 abbrev pub rule_form : Rule → List (List NamedTerm) → Form
-rule_form r withs = headed_form (rule_word r) (rule_members r ++ map with_form withs)
+rule_form r withs = headed_form (rule_word r) (rule_members r ++ map bindings_form withs)
 
 abbrev pub clause_form : List NamedLiteral → Form
 clause_form ls = headed_form (codes "or") (map literal_form ls)
@@ -135,11 +135,11 @@ abbrev pub is_row_name : List ℕ → Bool
 is_row_name w = is_name w || is_fortran_name w
 
 -- a number fits 32 bits
-abbrev pub fits : ℕ → Bool
-fits n = nat_lt n (2 ^ 32)
+abbrev pub is_u32 : ℕ → Bool
+is_u32 n = nat_lt n (2 ^ 32)
 
 abbrev pub named_step : NamedTerm-F Bool → Bool
-named_step (NamedTerm-F.Variable s n) = is_row_name s && fits n
+named_step (NamedTerm-F.Variable s n) = is_row_name s && is_u32 n
 named_step (NamedTerm-F.Alone w) = is_row_name w
 named_step (NamedTerm-F.Headed h bs) = is_row_name h && (is_some_list bs && all_true bs)
 
@@ -147,7 +147,7 @@ named_step (NamedTerm-F.Headed h bs) = is_row_name h && (is_some_list bs && all_
 unfoldable pub is_named : NamedTerm → Bool
 is_named = fold-NamedTerm Bool named_step
 
-pub named-Variable : (s : List ℕ) (n : ℕ) → is_named (Variable s n) ≡ (is_row_name s && fits n)
+pub named-Variable : (s : List ℕ) (n : ℕ) → is_named (Variable s n) ≡ (is_row_name s && is_u32 n)
 unfolding is_named
 named-Variable s n = fold-Variable Bool named_step s n
 
@@ -167,15 +167,15 @@ abbrev pub is_named_literal : NamedLiteral → Bool
 is_named_literal l = is_named_atom l.atom
 
 abbrev pub fits_rule : Rule → Bool
-fits_rule (rule.Axiom a c) = fits a && fits c
+fits_rule (rule.Axiom a c) = is_u32 a && is_u32 c
 fits_rule rule.Goal = true
-fits_rule (rule.Given k) = fits k
-fits_rule (rule.Factor p i j) = fits p && (fits i && fits j)
-fits_rule (rule.Reflex p i) = fits p && fits i
-fits_rule (rule.Resolve p i q j) = fits p && (fits i && (fits q && fits j))
-fits_rule (rule.Para p j side q i path) = fits p && (fits j && (fits q && (fits i && list_all fits path)))
-fits_rule (rule.Rewrite p j side q i path) = fits p && (fits j && (fits q && (fits i && list_all fits path)))
-fits_rule (rule.Close p) = fits p
+fits_rule (rule.Given k) = is_u32 k
+fits_rule (rule.Factor p i j) = is_u32 p && (is_u32 i && is_u32 j)
+fits_rule (rule.Reflex p i) = is_u32 p && is_u32 i
+fits_rule (rule.Resolve p i q j) = is_u32 p && (is_u32 i && (is_u32 q && is_u32 j))
+fits_rule (rule.Para p j side q i path) = is_u32 p && (is_u32 j && (is_u32 q && (is_u32 i && list_all is_u32 path)))
+fits_rule (rule.Rewrite p j side q i path) = is_u32 p && (is_u32 j && (is_u32 q && (is_u32 i && list_all is_u32 path)))
+fits_rule (rule.Close p) = is_u32 p
 
 abbrev pub is_named_answer : Option (List NamedTerm) → Bool
 is_named_answer None = true
@@ -183,15 +183,15 @@ is_named_answer (Some ts) = list_all is_named ts
 
 abbrev pub is_named_row : NamedRow → Bool
 is_named_row r =
-    fits r.number && (fits_rule r.rule && (length r.with == rows_bound r.rule && (list_all (list_all is_named) r.with && (list_all is_named_literal r.literals && is_named_answer r.answer))))
+    is_u32 r.number && (fits_rule r.rule && (length r.with == rows_bound r.rule && (list_all (list_all is_named) r.with && (list_all is_named_literal r.literals && is_named_answer r.answer))))
 
-abbrev pub depth_limit : ℕ
-depth_limit = 512
+abbrev pub row_depth_limit : ℕ
+row_depth_limit = 512
 
 -- the text is spelled as this row by names
 pub record Spells (text : List ℕ) (r : NamedRow) : Type 0 where
   pub named : is_named_row r ≡ true
-  pub low : height (row_form r) ≤ depth_limit
+  pub low : height (row_form r) ≤ row_depth_limit
   pub text_is : text ≡ row_text r
 
 -- the text is spelled as no row by names

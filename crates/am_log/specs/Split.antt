@@ -28,9 +28,9 @@ abbrev pub ends_line : Bool → List ℕ → Bool
 ends_line start [] = start
 ends_line start (b ∷ bs) = ends_line (b == 10) bs
 
-abbrev pub is_none : List ℕ → Bool
-is_none [] = true
-is_none (b ∷ bs) = false
+abbrev pub no_bytes : List ℕ → Bool
+no_bytes [] = true
+no_bytes (b ∷ bs) = false
 
 abbrev pub starts_with_c : List ℕ → Bool
 starts_with_c [] = false
@@ -41,7 +41,7 @@ starts_with_c (b ∷ bs) = is_c b
 pub record IsSplit (text proof unit : List ℕ) : Type 0 where
   pub all : text ≡ proof ++ unit
   pub lines : begin_with_c proof ≡ true
-  pub ended : (is_none unit || ends_line true proof) ≡ true
+  pub ended : (no_bytes unit || ends_line true proof) ≡ true
   pub behind : starts_with_c unit ≡ false
 
 -- ---- for a private contract: how many bytes the proof part has, at the start of a line or inside one

@@ -2,14 +2,14 @@
 use Rattle.std.specs.Prelude.{◌≡◌}
 use Rattle.am_theory.specs.declared.theory.Theory.{Theory}
 use Rattle.am_diagram.specs.declared.diagram.Diagram.{Diagram}
-use Rattle.am_diagram.specs.Listed.{sorts_in}
+use Rattle.am_diagram.specs.Listed.{entry_sorts}
 use Rattle.am_log.specs.declared.tables.Tables.{Tables as CodeTables}
-use Rattle.am_log.specs.Naming.{Names, names_in}
+use Rattle.am_log.specs.Naming.{Names, known_names}
 
 abbrev pub table_names : CodeTables → Names
 table_names t = record { sorts = t.sorts.names; inputs = t.inputs.names; symbols = t.symbols.names }
 
 -- the tables are those of the theory and the diagram
 pub record AreTables (t : Theory) (d : Diagram) (tables : CodeTables) : Type 0 where
-  pub names : table_names tables ≡ names_in t d
-  pub ins : tables.ins ≡ sorts_in d.inputs
+  pub names : table_names tables ≡ known_names t d
+  pub ins : tables.ins ≡ entry_sorts d.inputs

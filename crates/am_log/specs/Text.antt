@@ -12,6 +12,7 @@ use Rattle.am_term.specs.declared.term.Atom.{Atom}
 use Rattle.am_term.specs.declared.term.Atom.TheVariants.{Rel, Eq}
 use Rattle.am_term.specs.declared.term.Literal.{Literal}
 use Rattle.am_term.specs.Fold.{fold-Var, fold-In, fold-App}
+use Rattle.am_clause.specs.SortedClause.{is_sorted_answer}
 use Rattle.am_syntax.specs.Forms.{all_true}
 use Rattle.am_term.specs.Sorting.{sort_of, is_sorted_literal}
 use Rattle.am_text.specs.Grammar.{height}
@@ -19,17 +20,17 @@ use Rattle.am_clause.specs.declared.row.Row.{Row}
 use Rattle.am_clause.specs.declared.row.Log.{Log}
 use Rattle.am_theory.specs.declared.theory.Theory.{Theory}
 use Rattle.am_diagram.specs.declared.diagram.Diagram.{Diagram}
-use Rattle.am_diagram.specs.Listed.{sorts_in}
+use Rattle.am_diagram.specs.Listed.{entry_sorts}
 use Rattle.am_log.specs.Cut.{wrapped}
-use Rattle.am_log.specs.Naming.{Names, names_in, named_row}
-use Rattle.am_log.specs.Spelled.{row_form, row_text, fits, fits_rule, rows_bound, depth_limit}
+use Rattle.am_log.specs.Naming.{Names, known_names, named_row}
+use Rattle.am_log.specs.Spelled.{row_form, row_text, is_u32, fits_rule, rows_bound, row_depth_limit}
 
 -- how many bytes a proof that is read may have
 abbrev pub byte_limit : ℕ
 byte_limit = 16777216
 
-abbrev pub first_line : List ℕ
-first_line = codes "C (proof 1)" ++ 10 ∷ []
+abbrev pub proof_line : List ℕ
+proof_line = codes "C (proof 1)" ++ 10 ∷ []
 
 -- the rows, numbered on from k
 abbrev pub rows_text : Names → ℕ → List Row → List ℕ
@@ -38,15 +39,11 @@ rows_text n k (r ∷ rs) = wrapped (row_text (named_row n k r)) ++ rows_text n (
 
 -- the first line, and the rows numbered from 1
 unfoldable pub log_text : Theory → Diagram → Log → List ℕ
-log_text t d log = first_line ++ rows_text (names_in t d) 1 log.rows
+log_text t d log = proof_line ++ rows_text (known_names t d) 1 log.rows
 
 -- ---- which logs have a text
 abbrev pub has_sort : Signature → List SortId → Term → Bool
 has_sort sig ins x = is_some (sort_of sig ins x)
-
-abbrev pub is_sorted_answer : Signature → List SortId → Option (List Term) → Bool
-is_sorted_answer sig ins None = true
-is_sorted_answer sig ins (Some xs) = list_all (has_sort sig ins) xs
 
 -- each term has a sort, each literal is well sorted
 abbrev pub is_sorted_row : Signature → List SortId → Row → Bool
@@ -55,14 +52,14 @@ is_sorted_row sig ins r =
 
 -- ---- the numbers of a row fit 32 bits
 abbrev pub numbers_step : Term-F Bool → Bool
-numbers_step (Term-F.Var n s) = fits n
+numbers_step (Term-F.Var n s) = is_u32 n
 numbers_step (Term-F.In k) = true
 numbers_step (Term-F.App f bs) = all_true bs
 
 unfoldable pub numbers_fit : Term → Bool
 numbers_fit = fold-Term Bool numbers_step
 
-pub numbers-Var : (n : ℕ) (s : SortId) → numbers_fit (Var n s) ≡ fits n
+pub numbers-Var : (n : ℕ) (s : SortId) → numbers_fit (Var n s) ≡ is_u32 n
 unfolding numbers_fit
 numbers-Var n s = fold-Var Bool numbers_step n s
 
@@ -86,15 +83,15 @@ answer_fits None = true
 answer_fits (Some xs) = list_all numbers_fit xs
 
 abbrev pub row_fits : ℕ → Row → Bool
-row_fits k r = fits k && (fits_rule r.rule && (list_all (list_all numbers_fit) r.with && (list_all literal_fits r.clause.literals && answer_fits r.clause.answer)))
+row_fits k r = is_u32 k && (fits_rule r.rule && (list_all (list_all numbers_fit) r.with && (list_all literal_fits r.clause.literals && answer_fits r.clause.answer)))
 
 -- the row of this number has a `with` list for each row that its rule binds, is well sorted, nests at most as deep as may
 -- be, and its numbers fit
 pub record IsWritable (t : Theory) (d : Diagram) (k : ℕ) (r : Row) : Type 0 where
   pub bound : length r.with ≡ rows_bound r.rule
   pub numbers : row_fits k r ≡ true
-  pub sorted : is_sorted_row t.sig (sorts_in d.inputs) r ≡ true
-  pub low : height (row_form (named_row (names_in t d) k r)) ≤ depth_limit
+  pub sorted : is_sorted_row t.sig (entry_sorts d.inputs) r ≡ true
+  pub low : height (row_form (named_row (known_names t d) k r)) ≤ row_depth_limit
 
 abbrev pub AreWritable : Theory → Diagram → ℕ → List Row → Type 0
 AreWritable t d k [] = Unit {0}

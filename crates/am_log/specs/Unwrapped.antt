@@ -16,5 +16,5 @@ unwrapped (suc k) (b ∷ bs) = unwrapped k bs
 unwrapped zero (b ∷ bs) = if b == 10 then unwrapped 2 bs else b ∷ unwrapped zero bs
 
 -- the text that the group is the lines of
-unfoldable pub group_text : List ℕ → Option (List ℕ)
-group_text g = if bytes_eq (wrapped (unwrapped 2 g)) g then Some (unwrapped 2 g) else None
+unfoldable pub unwrapped_text : List ℕ → Option (List ℕ)
+unwrapped_text g = if bytes_eq (wrapped (unwrapped 2 g)) g then Some (unwrapped 2 g) else None

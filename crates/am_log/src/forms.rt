@@ -1,6 +1,6 @@
 ghost use Rattle.std.specs.Prelude.{◌≡◌, ◌∷◌, [], ◌++◌, IfOk, codes, map, slice_index};
 ghost use Rattle.am_syntax.specs.Forms.{word_form as word_spelled, list_form as list_spelled, relation_form as relation_spelled};
-ghost use Rattle.am_log.specs.Spelled.{variable_word as variable_spelled, number_form as number_spelled, term_form as term_spelled, atom_form as atom_spelled, signed_form as signed_spelled, literal_form as literal_spelled, with_form as with_spelled, side_form as side_spelled, path_form as path_spelled, rule_word, rule_members as members_spelled, rule_form as rule_spelled, clause_form as clause_spelled, answer_forms as answer_spelled, row_form as row_spelled};
+ghost use Rattle.am_log.specs.Spelled.{variable_word as variable_spelled, number_form as number_spelled, term_form as term_spelled, atom_form as atom_spelled, signed_form as signed_spelled, literal_form as literal_spelled, bindings_form as with_spelled, side_form as side_spelled, path_form as path_spelled, rule_word, rule_members as members_spelled, rule_form as rule_spelled, clause_form as clause_spelled, answer_forms as answer_spelled, row_form as row_spelled};
 
 use crate::named::{NamedAtom, NamedLiteral, NamedTerm};
 use am_clause::{Rule, Side};
@@ -19,7 +19,8 @@ pub fn row_form(
     literals: &[NamedLiteral],
     answer: &Option<Items<NamedTerm>>,
 ) -> Result<Form, NoMemory>
-    ensures { IfOk result (λ f. f ≡ row_spelled (record { number = number; rule = rule.now; with = with.now; literals = literals.now; answer = answer.now })) }
+    ensures { IfOk result (λ f. f ≡ row_spelled
+        (record { number = number; rule = rule.now; with = with.now; literals = literals.now; answer = answer.now })) }
 {
     let mut members = Items::new(alloc);
     members.push(number_form(number))?;
@@ -130,7 +131,9 @@ fn replacing(
     side: Side,
     path: &[u32],
 ) -> Result<Items<Form>, NoMemory>
-    ensures { IfOk result (λ fs. fs ≡ word_spelled word.now ∷ number_spelled (slice_index numbers 0) ∷ number_spelled (slice_index numbers 1) ∷ side_spelled side ∷ number_spelled (slice_index numbers 2) ∷ number_spelled (slice_index numbers 3) ∷ path_spelled path.now ∷ []) }
+    ensures { IfOk result (λ fs. fs ≡ word_spelled word.now ∷ number_spelled (slice_index numbers 0) ∷ number_spelled
+        (slice_index numbers 1) ∷ side_spelled side ∷ number_spelled (slice_index numbers 2) ∷ number_spelled
+        (slice_index numbers 3) ∷ path_spelled path.now ∷ []) }
 {
     let mut members = Items::new(alloc);
     members.push(word_form(alloc, word)?)?;
@@ -176,7 +179,8 @@ fn atom_form(alloc: Global, atom: &NamedAtom) -> Result<Form, NoMemory>
 
 #[tactic(auto, using(crate::proofs::FormSteps::form_laws))]
 fn equation_form(alloc: Global, left: &NamedTerm, right: &NamedTerm) -> Result<Form, NoMemory>
-    ensures { IfOk result (λ f. f ≡ list_spelled (word_spelled (codes "=") ∷ term_spelled left.now ∷ term_spelled right.now ∷ [])) }
+    ensures { IfOk result (λ f. f ≡ list_spelled
+        (word_spelled (codes "=") ∷ term_spelled left.now ∷ term_spelled right.now ∷ [])) }
 {
     let mut members = Items::new(alloc);
     members.push(word_form(alloc, "=")?)?;

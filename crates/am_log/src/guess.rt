@@ -22,7 +22,9 @@ pub fn guess_row(alloc: Global, form: &Form) -> Result<NamedRow, NoMemory>
 
 #[tactic(auto, unfolding(crate::specs::Guess::row_from))]
 fn row_from(alloc: Global, forms: &[Form], rule: &[Form]) -> Result<NamedRow, NoMemory>
-    ensures { IfOk result (λ r. r ≡ row_made (nth_number forms.now 0) (rule_guessed (nth_word rule.now 0) (drop 1 rule.now)) (drop 1 rule.now) (drop 1 (nth_members forms.now 2)) (slice_get forms.now 3)) }
+    ensures { IfOk result (λ r. r ≡ row_made (nth_number forms.now 0)
+        (rule_guessed (nth_word rule.now 0) (drop 1 rule.now)) (drop 1 rule.now) (drop 1 (nth_members forms.now 2))
+        (slice_get forms.now 3)) }
 {
     let number = number_nth(forms, 0);
     let behind = from(rule, 1);

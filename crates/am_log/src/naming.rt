@@ -1,6 +1,6 @@
 ghost use Rattle.std.specs.Prelude.{◌≡◌, [], map, slice_index_or, IfOk};
-ghost use Rattle.am_diagram.specs.Listed.{names_of};
-ghost use Rattle.am_log.specs.Naming.{names_in, applied as applied_to, named, named_atom as atom_named, named_literal as literal_named, named_answer as answer_named};
+ghost use Rattle.am_diagram.specs.Listed.{entry_names};
+ghost use Rattle.am_log.specs.Naming.{known_names, applied as applied_to, named, named_atom as atom_named, named_literal as literal_named, named_answer as answer_named};
 
 use crate::named::{NamedAtom, NamedLiteral, NamedTerm};
 use am_diagram::Diagram;
@@ -22,7 +22,7 @@ pub fn named_answer(
     scene: &Scene,
     answer: &Option<Items<Term>>,
 ) -> Result<Option<Items<NamedTerm>>, NoMemory>
-    ensures { IfOk result (λ a. a ≡ answer_named (names_in scene.now.theory.now scene.now.diagram.now) answer.now) }
+    ensures { IfOk result (λ a. a ≡ answer_named (known_names scene.now.theory.now scene.now.diagram.now) answer.now) }
 {
     match answer {
         None => Ok(None),
@@ -39,7 +39,8 @@ pub fn named_lists(
     scene: &Scene,
     lists: &[Items<Term>],
 ) -> Result<Items<Items<NamedTerm>>, NoMemory>
-    ensures { IfOk result (λ ls. ls ≡ map (map (named (names_in scene.now.theory.now scene.now.diagram.now))) lists.now) }
+    ensures { IfOk result (λ ls. ls ≡ map
+        (map (named (known_names scene.now.theory.now scene.now.diagram.now))) lists.now) }
 {
     let mut made = Items::new(alloc);
     for terms in lists {
@@ -54,7 +55,8 @@ pub fn named_literals(
     scene: &Scene,
     literals: &[Literal],
 ) -> Result<Items<NamedLiteral>, NoMemory>
-    ensures { IfOk result (λ ls. ls ≡ map (literal_named (names_in scene.now.theory.now scene.now.diagram.now)) literals.now) }
+    ensures { IfOk result (λ ls. ls ≡ map
+        (literal_named (known_names scene.now.theory.now scene.now.diagram.now)) literals.now) }
 {
     let mut made = Items::new(alloc);
     for literal in literals {
@@ -69,7 +71,7 @@ pub fn named_literals(
 
 #[tactic(auto, using(crate::proofs::NamingSteps::namings))]
 fn named_atom(alloc: Global, scene: &Scene, atom: &Atom) -> Result<NamedAtom, NoMemory>
-    ensures { IfOk result (λ a. a ≡ atom_named (names_in scene.now.theory.now scene.now.diagram.now) atom.now) }
+    ensures { IfOk result (λ a. a ≡ atom_named (known_names scene.now.theory.now scene.now.diagram.now) atom.now) }
 {
     match atom {
         Atom::Rel { r, args } => {
@@ -89,7 +91,7 @@ fn named_atom(alloc: Global, scene: &Scene, atom: &Atom) -> Result<NamedAtom, No
 #[cycle(naming_terms)]
 #[tactic(auto, using(crate::proofs::NamingSteps::namings))]
 fn named_term(alloc: Global, scene: &Scene, term: &Term) -> Result<NamedTerm, NoMemory>
-    ensures { IfOk result (λ t. t ≡ named (names_in scene.now.theory.now scene.now.diagram.now) term.now) }
+    ensures { IfOk result (λ t. t ≡ named (known_names scene.now.theory.now scene.now.diagram.now) term.now) }
 {
     match term {
         Term::Var { n, sort } => {
@@ -110,7 +112,7 @@ fn named_term(alloc: Global, scene: &Scene, term: &Term) -> Result<NamedTerm, No
 #[cycle(naming_terms)]
 #[tactic(auto, using(crate::proofs::NamingSteps::namings))]
 fn named_terms(alloc: Global, scene: &Scene, terms: &[Term]) -> Result<Items<NamedTerm>, NoMemory>
-    ensures { IfOk result (λ ts. ts ≡ map (named (names_in scene.now.theory.now scene.now.diagram.now)) terms.now) }
+    ensures { IfOk result (λ ts. ts ≡ map (named (known_names scene.now.theory.now scene.now.diagram.now)) terms.now) }
 {
     let mut made = Items::new(alloc);
     for term in terms {
@@ -153,7 +155,7 @@ fn sort_name(alloc: Global, sorts: &[Name], id: SortId) -> Result<Name, NoMemory
 
 #[tactic(auto, using(crate::proofs::NamingSteps::names))]
 fn input_name(alloc: Global, inputs: &[(Name, SortId)], number: u32) -> Result<Name, NoMemory>
-    ensures { IfOk result (λ n. n ≡ slice_index_or (names_of inputs.now) number []) }
+    ensures { IfOk result (λ n. n ≡ slice_index_or (entry_names inputs.now) number []) }
 {
     match sqlite_items::at(inputs, number as usize) {
         Some(input) => Name::new(alloc, input.0.as_str()),

@@ -1,12 +1,12 @@
 ghost use Rattle.std.specs.Prelude.{◌≡◌};
 ghost use Rattle.std.specs.List.{list_all};
 ghost use Rattle.std.specs.Char.{is_ascii_digit};
-ghost use Rattle.am_log.specs.Guess.{number_of, small_value};
+ghost use Rattle.am_log.specs.Guess.{number_in_word, small_value};
 
 /// The number below 2^32 that the text spells in digits, else 0.
-#[tactic(auto, unfolding(crate::specs::Guess::number_of))]
+#[tactic(auto, unfolding(crate::specs::Guess::number_in_word))]
 pub fn parsed(text: &str) -> u32
-    ensures { result ≡ number_of text.now }
+    ensures { result ≡ number_in_word text.now }
 {
     if !all_digits(text.as_bytes()) {
         return 0;

@@ -1,17 +1,17 @@
 ghost use Rattle.std.specs.Prelude.{◌≡◌, ◌≢◌, ◌≤◌, ◌⊎◌, ℕ, IfOk, IfErr, MatchResult, length, Err, Ok};
-ghost use Rattle.am_diagram.specs.Listed.{sorts_in};
+ghost use Rattle.am_diagram.specs.Listed.{entry_sorts};
 ghost use Rattle.am_theory.specs.Facts.{WellFormed};
 ghost use Rattle.am_diagram.specs.Facts.{WellFormed as WellDrawn};
 ghost use Rattle.am_clause.specs.declared.row.Log.{Log};
 ghost use Rattle.am_log.specs.declared.fault.LogKind.{LogKind};
 ghost use Rattle.am_log.specs.declared.fault.LogKind.TheVariants.{NoMemory as OutOfMemory};
 ghost use Rattle.am_log.specs.Tables.{table_names};
-ghost use Rattle.am_log.specs.Naming.{names_in};
-ghost use Rattle.am_log.specs.Text.{byte_limit, first_line, log_text, HasText};
+ghost use Rattle.am_log.specs.Naming.{known_names};
+ghost use Rattle.am_log.specs.Text.{byte_limit, proof_line, log_text, HasText};
 ghost use Rattle.std.specs.Str.{bytes_eq};
 ghost use Rattle.am_log.specs.Groups.{groups, is_inside};
 ghost use Rattle.std.specs.List.{prefix_len};
-ghost use Rattle.am_log.specs.Answers.{group_row as row_answered, row_of_named as row_by_names, rows_in as rows_answered, head_fault as fault_of_head, is_headed as head_is, log_answer};
+ghost use Rattle.am_log.specs.Answers.{group_row as row_answered, row_of_named as row_by_names, rows_in as rows_answered, head_fault as fault_of_head, begins_proof as head_is, log_answer};
 ghost use Rattle.am_log.specs.Faults.{lines_in as lines_ended, IsFault};
 
 use crate::fault::{LogFault, LogKind};
@@ -41,13 +41,18 @@ pub fn read_log(
     requires theory { WellFormed theory.now }
     requires diagram { WellDrawn theory.now diagram.now }
     // What is read is the log of this text.
-    ensures found { IfOk result (λ log. HasText theory.now diagram.now log × (bytes.now ≡ log_text theory.now diagram.now log)) }
+    ensures found { IfOk result (λ log. HasText theory.now diagram.now log
+        × (bytes.now ≡ log_text theory.now diagram.now log)) }
     // The text of a log is read, unless memory runs out.
-    ensures again { (log : Log) → HasText theory.now diagram.now log → bytes.now ≡ log_text theory.now diagram.now log → MatchResult result (λ read. read ≡ log) (λ fault. fault.kind ≡ OutOfMemory) }
+    ensures again { (log : Log) → HasText theory.now diagram.now log → bytes.now ≡ log_text theory.now diagram.now log
+        → MatchResult result (λ read. read ≡ log) (λ fault. fault.kind ≡ OutOfMemory) }
     // A fault is the first.
-    ensures fault { IfErr result (λ fault. fault.kind ≢ OutOfMemory → IsFault theory.now diagram.now bytes.now fault.line fault.kind) }
+    ensures fault { IfErr result (λ fault. fault.kind ≢ OutOfMemory
+        → IsFault theory.now diagram.now bytes.now fault.line fault.kind) }
     // The first fault is answered, unless memory runs out.
-    ensures first { (line : ℕ) (kind : LogKind) → IsFault theory.now diagram.now bytes.now line kind → MatchResult result (λ _. ⊥) (λ fault. (fault.kind ≡ OutOfMemory) ⊎ ((fault.line ≡ line) × (fault.kind ≡ kind))) }
+    ensures first { (line : ℕ) (kind : LogKind) → IsFault theory.now diagram.now bytes.now line kind
+        → MatchResult result (λ _. ⊥) (λ fault. (fault.kind ≡ OutOfMemory)
+        ⊎ ((fault.line ≡ line) × (fault.kind ≡ kind))) }
 {
     match answer(alloc, theory, diagram, bytes) {
         Ok(Ok(rows)) => Ok(Log { rows }),
@@ -66,7 +71,8 @@ fn answer(
     bytes: &[u8],
 ) -> Result<Result<Items<Row>, (u32, LogKind)>, NoMemory>
     requires { length bytes.now ≤ byte_limit }
-    ensures { IfOk result (λ r. r ≡ log_answer (names_in theory.now diagram.now) theory.now.sig (sorts_in diagram.now.inputs) bytes.now) }
+    ensures { IfOk result (λ r. r ≡ log_answer (known_names theory.now diagram.now) theory.now.sig
+        (entry_sorts diagram.now.inputs) bytes.now) }
 {
     let tables = tables_of(alloc, theory, diagram)?;
     let ctx = Ctx {
@@ -98,7 +104,7 @@ fn table_answer(
     Ok(Err((1, kind)))
 }
 
-#[tactic(auto, unfolding(crate::specs::Unwrapped::group_text))]
+#[tactic(auto, unfolding(crate::specs::Unwrapped::unwrapped_text))]
 fn head_fault(alloc: Global, head: &[u8]) -> Result<LogKind, NoMemory>
     ensures { IfOk result (λ kind. kind ≡ fault_of_head head.now) }
 {
@@ -114,7 +120,7 @@ fn head_fault(alloc: Global, head: &[u8]) -> Result<LogKind, NoMemory>
 }
 
 fn is_first(head: &[u8]) -> bool
-    ensures { result ≡ bytes_eq head.now first_line }
+    ensures { result ≡ bytes_eq head.now proof_line }
 {
     head == b"C (proof 1)\n".as_slice()
 }
@@ -152,7 +158,8 @@ fn rows(
     bytes: &[u8],
 ) -> Result<Result<Items<Row>, (u32, LogKind)>, NoMemory>
     requires { length bytes.now ≤ byte_limit }
-    ensures { IfOk result (λ r. r ≡ rows_answered (table_names tables.now) ctx.now.sig.now ctx.now.ins.now 1 2 (groups bytes.now)) }
+    ensures { IfOk result (λ r. r ≡ rows_answered (table_names tables.now) ctx.now.sig.now ctx.now.ins.now 1 2
+        (groups bytes.now)) }
 {
     let mut made = Items::new(alloc);
     let mut rest = bytes;
@@ -187,7 +194,7 @@ fn lines_in(group: &[u8]) -> usize
 }
 
 /// The row of this number that the group is, or the first kind of fault that holds of it.
-#[tactic(auto, unfolding(crate::specs::Answers::group_row, crate::specs::Unwrapped::group_text))]
+#[tactic(auto, unfolding(crate::specs::Answers::group_row, crate::specs::Unwrapped::unwrapped_text))]
 fn group_row(
     alloc: Global,
     ctx: &Ctx,
@@ -195,7 +202,8 @@ fn group_row(
     number: u32,
     group: &[u8],
 ) -> Result<Result<Row, LogKind>, NoMemory>
-    ensures { IfOk result (λ r. r ≡ row_answered (table_names tables.now) ctx.now.sig.now ctx.now.ins.now number group.now) }
+    ensures { IfOk result (λ r. r ≡ row_answered
+        (table_names tables.now) ctx.now.sig.now ctx.now.ins.now number group.now) }
 {
     let text = unwrapped(alloc, group)?;
     if !is_wrapped(alloc, text.as_slice(), group)? {

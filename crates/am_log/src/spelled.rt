@@ -20,7 +20,8 @@ pub fn row_of(alloc: Global, text: &[u8]) -> Result<Option<NamedRow>, NoMemory>
     // The row is read.
     ensures same { IfOk result (λ found. found ≡ row_named text.now) }
     // A row that was read is spelled so, and where none was read the text is spelled as none.
-    ensures exact { length text.now ≤ byte_limit → IfOk result (λ found. MatchOption found (SpellsNothing text.now) (λ row. Spells text.now row)) }
+    ensures exact { length text.now ≤ byte_limit
+        → IfOk result (λ found. MatchOption found (SpellsNothing text.now) (λ row. Spells text.now row)) }
 {
     let Some(row) = guess_text(alloc, text)? else {
         return Ok(None);

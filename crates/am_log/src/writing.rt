@@ -1,6 +1,6 @@
 ghost use Rattle.std.specs.Prelude.{◌≡◌, ◌++◌, OnOk, IfOk};
 ghost use Rattle.am_log.specs.Text.{log_text, rows_text};
-ghost use Rattle.am_log.specs.Naming.{names_in, named_row as row_named};
+ghost use Rattle.am_log.specs.Naming.{known_names, named_row as row_named};
 ghost use Rattle.am_log.specs.Cut.{wrapped};
 ghost use Rattle.am_log.specs.Spelled.{row_form as form_spelled, row_text};
 
@@ -32,7 +32,8 @@ pub fn write_log(
 }
 
 fn push_rows(alloc: Global, out: &mut Vec<u8>, scene: &Scene, rows: &[Row]) -> Result<(), NoMemory>
-    ensures { OnOk result (out.new.items ≡ out.old.items ++ rows_text (names_in scene.now.theory.now scene.now.diagram.now) 1 rows.now) }
+    ensures { OnOk result (out.new.items ≡ out.old.items ++ rows_text
+        (known_names scene.now.theory.now scene.now.diagram.now) 1 rows.now) }
 {
     let mut rest = rows;
     let mut number: u32 = 1;
@@ -55,7 +56,8 @@ fn push_row(
     number: u32,
     row: &Row,
 ) -> Result<(), NoMemory>
-    ensures { OnOk result (out.new.items ≡ out.old.items ++ wrapped (row_text (row_named (names_in scene.now.theory.now scene.now.diagram.now) number row.now))) }
+    ensures { OnOk result (out.new.items ≡ out.old.items ++ wrapped
+        (row_text (row_named (known_names scene.now.theory.now scene.now.diagram.now) number row.now))) }
 {
     let form = named_form(alloc, scene, number, row)?;
     let text = write_form(alloc, &form)?;
@@ -64,7 +66,8 @@ fn push_row(
 
 /// The form of the row of this number.
 fn named_form(alloc: Global, scene: &Scene, number: u32, row: &Row) -> Result<Form, NoMemory>
-    ensures { IfOk result (λ f. f ≡ form_spelled (row_named (names_in scene.now.theory.now scene.now.diagram.now) number row.now)) }
+    ensures { IfOk result (λ f. f ≡ form_spelled
+        (row_named (known_names scene.now.theory.now scene.now.diagram.now) number row.now)) }
 {
     let with = named_lists(alloc, scene, row.with.as_slice())?;
     let literals = named_literals(alloc, scene, row.clause.literals.as_slice())?;

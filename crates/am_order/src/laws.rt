@@ -18,7 +18,8 @@ ghost use Rattle.am_order.specs.Closure.{IsSubstitution, Frame, placed};
 /// argument of the other, and at the first place where the arguments differ its own is greater.
 #[tactic(auto, using(crate::proofs::Rulesets::rule))]
 pub fn law_of_cases()
-    ensures rule { (sig : Signature) (s t : Term) → greater sig s t ≡ (inner_variable t s || by_part sig s t || by_head sig s t || by_arguments sig s t) }
+    ensures rule { (sig : Signature) (s t : Term)
+        → greater sig s t ≡ (inner_variable t s || by_part sig s t || by_head sig s t || by_arguments sig s t) }
 {}
 
 /// The order is strict: no term is greater than itself, and what is greater than a term is greater
@@ -26,7 +27,8 @@ pub fn law_of_cases()
 #[tactic(auto, using(crate::proofs::Rulesets::strict))]
 pub fn law_of_order()
     ensures irreflexive { (sig : Signature) (s : Term) → greater sig s s ≡ false }
-    ensures transitive { (sig : Signature) (s t u : Term) → IsTrue (greater sig s t) → IsTrue (greater sig t u) → IsTrue (greater sig s u) }
+    ensures transitive { (sig : Signature) (s t u : Term) → IsTrue (greater sig s t) → IsTrue (greater sig t u)
+        → IsTrue (greater sig s u) }
 {}
 
 /// The parts of a term are the term itself and the parts of its arguments, and a term is greater than
@@ -41,14 +43,19 @@ pub fn law_of_parts()
 /// substitution.
 #[tactic(auto, using(crate::proofs::Rulesets::substitutions))]
 pub fn law_of_instances()
-    ensures instances { (sig : Signature) (with : List Term) (s t : Term) → IsTrue (greater sig s t) → IsTrue (greater sig (instance with s) (instance with t)) }
-    ensures substitutions { (sig : Signature) (θ : Term → Term) → IsSubstitution θ → (s t : Term) → IsTrue (greater sig s t) → IsTrue (greater sig (θ s) (θ t)) }
+    ensures instances { (sig : Signature) (with : List Term) (s t : Term) → IsTrue (greater sig s t)
+        → IsTrue (greater sig (instance with s) (instance with t)) }
+    ensures substitutions { (sig : Signature) (θ : Term → Term) → IsSubstitution θ → (s t : Term)
+        → IsTrue (greater sig s t) → IsTrue (greater sig (θ s) (θ t)) }
 {}
 
 /// A greater term stays greater where both terms stand at one place: as an argument of a symbol with
 /// the same others, and so at any depth.
 #[tactic(auto, using(crate::proofs::Rulesets::contexts))]
 pub fn law_of_contexts()
-    ensures arguments { (sig : Signature) (f : SymId) (before behind : List Term) (s t : Term) → IsTrue (greater sig s t) → IsTrue (greater sig (App f (before ++ s ∷ behind)) (App f (before ++ t ∷ behind))) }
-    ensures places { (sig : Signature) (frames : List Frame) (s t : Term) → IsTrue (greater sig s t) → IsTrue (greater sig (placed frames s) (placed frames t)) }
+    ensures arguments { (sig : Signature) (f : SymId) (before behind : List Term) (s t : Term)
+        → IsTrue (greater sig s t) → IsTrue
+        (greater sig (App f (before ++ s ∷ behind)) (App f (before ++ t ∷ behind))) }
+    ensures places { (sig : Signature) (frames : List Frame) (s t : Term) → IsTrue (greater sig s t)
+        → IsTrue (greater sig (placed frames s) (placed frames t)) }
 {}

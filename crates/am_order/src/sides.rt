@@ -17,7 +17,8 @@ pub enum Oriented {
 pub fn orient(sig: &Signature, left: &Term, right: &Term) -> Oriented
     ensures left { (result ≡ Oriented.Left) ↔ IsTrue (is_greater sig.now left.now right.now) }
     ensures right { (result ≡ Oriented.Right) ↔ IsTrue (is_greater sig.now right.now left.now) }
-    ensures neither { (result ≡ Oriented.Neither) ↔ ((is_greater sig.now left.now right.now ≡ false) × (is_greater sig.now right.now left.now ≡ false)) }
+    ensures neither { (result ≡ Oriented.Neither) ↔ ((is_greater sig.now left.now right.now ≡ false)
+        × (is_greater sig.now right.now left.now ≡ false)) }
 {
     if greater(sig, left, right) {
         return Oriented::Left;

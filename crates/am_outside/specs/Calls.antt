@@ -3,8 +3,8 @@ use Rattle.std.specs.Prelude.{ℕ, ◌+◌, ◌-◌, ◌^◌, min, Bool, ◌&&�
 use Rattle.std.specs.List.{list_all}
 
 -- a count after one more, which stays at its last value
-abbrev pub counted : ℕ → ℕ
-counted before = min (before + 1) (2 ^ 64 - 1)
+abbrev pub counted_up : ℕ → ℕ
+counted_up before = min (before + 1) (2 ^ 64 - 1)
 
 -- No listed number names a call that is still to come, after so many calls. The last value of a count
 -- always counts as still to come.

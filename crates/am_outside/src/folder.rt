@@ -1,5 +1,5 @@
 ghost use Rattle.std.specs.Prelude.{◌≡◌, ◌≢◌, ◌+◌, ◌<◌, ◌≤◌, [], None, length};
-ghost use Rattle.am_outside.specs.Calls.{counted};
+ghost use Rattle.am_outside.specs.Calls.{counted_up};
 ghost use Rattle.am_outside.specs.Growth.{WhereTold};
 
 use crate::answer::Fetched;
@@ -38,7 +38,7 @@ impl<R: Files> Library for Folder<'_, R> {
         requires small { limit ≤ 16777216 }
         ensures fits { result ≡ Fetched.Done → length into.new.items ≤ limit }
         ensures emptied { result ≢ Fetched.Done → into.new.items ≡ [] }
-        ensures counts { result ≡ Fetched.Failed → self.new.faults ≡ counted self.old.faults }
+        ensures counts { result ≡ Fetched.Failed → self.new.faults ≡ counted_up self.old.faults }
         ensures none_counted { result ≢ Fetched.Failed → self.new.faults ≡ self.old.faults }
         ensures later { self.old.faults ≤ self.new.faults }
     {

@@ -1,5 +1,5 @@
 ghost use Rattle.std.specs.Prelude.{◌≡◌, ◌↔◌, ◌+◌, ◌-◌, ◌<◌, ◌≤◌, ◌++◌, ℕ, List, [], Option, Some, IfOk, IsSome, length, vec_len, vec_capacity};
-ghost use Rattle.am_outside.specs.Calls.{counted};
+ghost use Rattle.am_outside.specs.Calls.{counted_up};
 ghost use Rattle.am_outside.specs.Growth.{Grows, GrowsByPart};
 ghost use Rattle.am_outside.specs.Pages.{planned, stop_of, up_to, sure_bytes};
 
@@ -50,16 +50,25 @@ impl Sink for Page {
 
     #[tactic(auto, using(crate::proofs::Stops::is_sure))]
     fn put(&mut self, bytes: &[u8]) -> Put
-        ensures fails { (result ≡ Put.Failed) ↔ IsSome (stop_of (planned self.old.fail.items self.new.calls) (self.old.room - vec_len self.old.held) (length bytes.now)) }
-        ensures takes { self.new.held.items ≡ self.old.held.items ++ up_to (stop_of (planned self.old.fail.items self.new.calls) (self.old.room - vec_len self.old.held) (length bytes.now)) bytes.now }
-        ensures calls { self.new.calls ≡ counted self.old.calls }
-        ensures counts { result ≡ Put.Failed → self.new.faults ≡ counted self.old.faults }
+        ensures fails { (result ≡ Put.Failed) ↔ IsSome (stop_of (planned self.old.fail.items self.new.calls)
+            (self.old.room - vec_len self.old.held) (length bytes.now)) }
+        ensures takes { self.new.held.items ≡ self.old.held.items ++ up_to
+            (stop_of (planned self.old.fail.items self.new.calls) (self.old.room - vec_len self.old.held)
+            (length bytes.now)) bytes.now }
+        ensures calls { self.new.calls ≡ counted_up self.old.calls }
+        ensures counts { result ≡ Put.Failed → self.new.faults ≡ counted_up self.old.faults }
         ensures none_counted { result ≡ Put.Done → self.new.faults ≡ self.old.faults }
         ensures fail_stays { self.new.fail ≡ self.old.fail }
         ensures room_stays { self.new.room ≡ self.old.room }
         ensures later { self.old.faults ≤ self.new.faults }
-        ensures sure { 0 < sure_bytes (vec_len self.old.held) self.old.room self.old.calls self.old.fail.items → length bytes.now ≤ sure_bytes (vec_len self.old.held) self.old.room self.old.calls self.old.fail.items → result ≡ Put.Done }
-        ensures sure_left { result ≡ Put.Done → 0 < sure_bytes (vec_len self.old.held) self.old.room self.old.calls self.old.fail.items → length bytes.now ≤ sure_bytes (vec_len self.old.held) self.old.room self.old.calls self.old.fail.items → sure_bytes (vec_len self.old.held) self.old.room self.old.calls self.old.fail.items ≤ sure_bytes (vec_len self.new.held) self.new.room self.new.calls self.new.fail.items + length bytes.now }
+        ensures sure { 0 < sure_bytes (vec_len self.old.held) self.old.room self.old.calls self.old.fail.items
+            → length bytes.now ≤ sure_bytes (vec_len self.old.held) self.old.room self.old.calls self.old.fail.items
+            → result ≡ Put.Done }
+        ensures sure_left { result ≡ Put.Done
+            → 0 < sure_bytes (vec_len self.old.held) self.old.room self.old.calls self.old.fail.items
+            → length bytes.now ≤ sure_bytes (vec_len self.old.held) self.old.room self.old.calls self.old.fail.items
+            → sure_bytes (vec_len self.old.held) self.old.room self.old.calls self.old.fail.items ≤ sure_bytes
+            (vec_len self.new.held) self.new.room self.new.calls self.new.fail.items + length bytes.now }
     {
         self.calls = self.calls.saturating_add(1);
         let left = self.room - self.held.len() as u64;

@@ -1,7 +1,7 @@
 ghost use Rattle.std.specs.Prelude.{◌≡◌, ◌≢◌, ◌↔◌, ◌<◌, ◌≤◌, ◌==◌, ℕ, List, [], Option, None, Some, Bool, cond, IsSome, IsTrue, length};
 ghost use Rattle.std.specs.List.{list_any};
 ghost use Rattle.std.specs.Option.{option_map};
-ghost use Rattle.am_outside.specs.Calls.{all_past, counted};
+ghost use Rattle.am_outside.specs.Calls.{all_past, counted_up};
 ghost use Rattle.am_outside.specs.Files.{file_of, fails_at};
 ghost use Rattle.am_outside.specs.Growth.{WhereTold};
 
@@ -36,7 +36,8 @@ impl Shelf {
 impl Library for Shelf {
     ghost told = { λ shelf name. file_of shelf.files.items name };
 
-    ghost sure = { λ shelf name. IsSome (file_of shelf.files.items name) × IsTrue (all_past shelf.calls shelf.fail.items) };
+    ghost sure = { λ shelf name. IsSome (file_of shelf.files.items name)
+        × IsTrue (all_past shelf.calls shelf.fail.items) };
 
     ghost faults = { λ shelf. shelf.faults };
 
@@ -44,20 +45,26 @@ impl Library for Shelf {
     fn fetch(&mut self, name: &str, limit: usize, into: &mut Vec<u8>) -> Fetched
         requires empty { into.old.items ≡ [] }
         requires small { limit ≤ 16777216 }
-        ensures fails { (result ≡ Fetched.Failed) ↔ IsTrue (fails_at self.old.files.items self.old.fail.items self.new.calls name.now) }
+        ensures fails { (result ≡ Fetched.Failed) ↔ IsTrue
+            (fails_at self.old.files.items self.old.fail.items self.new.calls name.now) }
         ensures done { result ≡ Fetched.Done → Some into.new.items ≡ file_of self.old.files.items name.now }
         ensures fits { result ≡ Fetched.Done → length into.new.items ≤ limit }
-        ensures too_long { result ≡ Fetched.TooLong → WhereTold (file_of self.old.files.items name.now) (λ b. limit < length b) }
-        ensures long { result ≢ Fetched.Failed → WhereTold (file_of self.old.files.items name.now) (λ b. limit < length b → result ≡ Fetched.TooLong) }
+        ensures too_long { result ≡ Fetched.TooLong → WhereTold (file_of self.old.files.items name.now) (λ b.
+            limit < length b) }
+        ensures long { result ≢ Fetched.Failed → WhereTold (file_of self.old.files.items name.now) (λ b.
+            limit < length b → result ≡ Fetched.TooLong) }
         ensures emptied { result ≢ Fetched.Done → into.new.items ≡ [] }
-        ensures calls { self.new.calls ≡ counted self.old.calls }
-        ensures counts { result ≡ Fetched.Failed → self.new.faults ≡ counted self.old.faults }
+        ensures calls { self.new.calls ≡ counted_up self.old.calls }
+        ensures counts { result ≡ Fetched.Failed → self.new.faults ≡ counted_up self.old.faults }
         ensures none_counted { result ≢ Fetched.Failed → self.new.faults ≡ self.old.faults }
         ensures files_stay { self.new.files ≡ self.old.files }
         ensures fail_stays { self.new.fail ≡ self.old.fail }
         ensures later { self.old.faults ≤ self.new.faults }
-        ensures sure { IsSome (file_of self.old.files.items name.now) × IsTrue (all_past self.old.calls self.old.fail.items) → result ≢ Fetched.Failed }
-        ensures sure_stays { (n : List ℕ) → IsSome (file_of self.old.files.items n) × IsTrue (all_past self.old.calls self.old.fail.items) → IsSome (file_of self.new.files.items n) × IsTrue (all_past self.new.calls self.new.fail.items) }
+        ensures sure { IsSome (file_of self.old.files.items name.now)
+            × IsTrue (all_past self.old.calls self.old.fail.items) → result ≢ Fetched.Failed }
+        ensures sure_stays { (n : List ℕ) → IsSome (file_of self.old.files.items n)
+            × IsTrue (all_past self.old.calls self.old.fail.items) → IsSome (file_of self.new.files.items n)
+            × IsTrue (all_past self.new.calls self.new.fail.items) }
     {
         self.calls = self.calls.saturating_add(1);
         match file_at(&self.files, &self.fail, self.calls, name) {
@@ -87,7 +94,8 @@ fn file_at<'a>(
     call: u64,
     name: &str,
 ) -> Option<&'a [u8]>
-    ensures { option_map (λ bytes. bytes.now) result ≡ cond (fails_at files.now fail.now call name.now) None (file_of files.now name.now) }
+    ensures { option_map (λ bytes. bytes.now) result ≡ cond (fails_at files.now fail.now call name.now) None
+        (file_of files.now name.now) }
 {
     if fail.contains(&call) {
         return None;

@@ -25,5 +25,6 @@ pub trait Sink {
         ensures kept { result ≡ Put.Done → faults self.new ≡ faults self.old }
         ensures later { faults self.old ≤ faults self.new }
         ensures sure { 0 < sure self.old → length bytes.now ≤ sure self.old → result ≡ Put.Done }
-        ensures sure_left { result ≡ Put.Done → 0 < sure self.old → length bytes.now ≤ sure self.old → sure self.old ≤ sure self.new + length bytes.now };
+        ensures sure_left { result ≡ Put.Done → 0 < sure self.old → length bytes.now ≤ sure self.old
+            → sure self.old ≤ sure self.new + length bytes.now };
 }

@@ -1,5 +1,5 @@
 ghost use Rattle.std.specs.Prelude.{◌≡◌, ◌+◌, ◌<◌, ◌≤◌, ℕ, List, Option, None, IsTrue, take, length};
-ghost use Rattle.am_outside.specs.Calls.{counted};
+ghost use Rattle.am_outside.specs.Calls.{counted_up};
 ghost use Rattle.am_outside.specs.Growth.{Grows, GrowsByPart};
 ghost use Rattle.std.specs.Io.KnownBytes.{Appends};
 
@@ -38,9 +38,11 @@ impl<W: Write> Sink for Stream<W> {
     ghost sure = { λ _. 0 };
 
     fn put(&mut self, bytes: &[u8]) -> Put
-        ensures writes { result ≡ Put.Done → Appends (W.contents self.old.writer) (W.contents self.new.writer) bytes.now }
-        ensures writes_part { (n : ℕ) × Appends (W.contents self.old.writer) (W.contents self.new.writer) (take n bytes.now) }
-        ensures counts { result ≡ Put.Failed → self.new.faults ≡ counted self.old.faults }
+        ensures writes { result ≡ Put.Done
+            → Appends (W.contents self.old.writer) (W.contents self.new.writer) bytes.now }
+        ensures writes_part { (n : ℕ) × Appends (W.contents self.old.writer) (W.contents self.new.writer)
+            (take n bytes.now) }
+        ensures counts { result ≡ Put.Failed → self.new.faults ≡ counted_up self.old.faults }
         ensures none_counted { result ≡ Put.Done → self.new.faults ≡ self.old.faults }
         ensures later { self.old.faults ≤ self.new.faults }
     {

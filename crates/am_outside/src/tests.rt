@@ -23,16 +23,19 @@ enum Copied {
 
 /// Puts the bytes under a name, of which there are at most 3, to a sink. Any library and any sink.
 fn copy<L: Library, O: Sink>(alloc: Global, library: &mut L, name: &str, out: &mut O) -> Copied
-    ensures whole { result ≡ Copied.Whole → WhereTold (L.told library.old name.now) (λ b. Grows (O.held out.old) (O.held out.new) b) }
+    ensures whole { result ≡ Copied.Whole
+        → WhereTold (L.told library.old name.now) (λ b. Grows (O.held out.old) (O.held out.new) b) }
     ensures long { result ≡ Copied.Long → WhereTold (L.told library.old name.now) (λ b. 3 < length b) }
     ensures not_whole { WhereTold (L.told library.old name.now) (λ b. 3 < length b → result ≢ Copied.Whole) }
     ensures unread { result ≡ Copied.Unread → Rose (L.faults library.old) (L.faults library.new) }
     ensures read { result ≢ Copied.Unread → L.faults library.new ≡ L.faults library.old }
     ensures sure { L.sure library.old name.now → result ≢ Copied.Unread }
     ensures unwritten { result ≡ Copied.Unwritten → Rose (O.faults out.old) (O.faults out.new) }
-    ensures part { result ≡ Copied.Unwritten → WhereTold (L.told library.old name.now) (λ b. GrowsByPart (O.held out.old) (O.held out.new) b) }
+    ensures part { result ≡ Copied.Unwritten
+        → WhereTold (L.told library.old name.now) (λ b. GrowsByPart (O.held out.old) (O.held out.new) b) }
     ensures written { 3 ≤ O.sure out.old → result ≢ Copied.Unwritten }
-    ensures complete { WhereTold (L.told library.old name.now) (λ b. length b ≤ 3 → L.sure library.old name.now → 3 ≤ O.sure out.old → result ≢ Copied.NoMemory → result ≡ Copied.Whole) }
+    ensures complete { WhereTold (L.told library.old name.now) (λ b. length b ≤ 3 → L.sure library.old name.now
+        → 3 ≤ O.sure out.old → result ≢ Copied.NoMemory → result ≡ Copied.Whole) }
     ensures told_stays { L.told library.new ≡ L.told library.old }
 {
     let mut bytes = Vec::new(alloc);

@@ -19,7 +19,7 @@ use Rattle.am_theory.specs.declared.theory.Theory.{Theory}
 use Rattle.am_theory.specs.Lookups.{rep_of, result_of, result_sort, function_named}
 use Rattle.am_theory.specs.Facts.{WellFormed as WellFormedTheory, IsConcrete, IsFunction}
 use Rattle.am_diagram.specs.declared.diagram.Diagram.{Diagram}
-use Rattle.am_diagram.specs.Listed.{sorts_in, names_of}
+use Rattle.am_diagram.specs.Listed.{entry_sorts, entry_names}
 use Rattle.am_diagram.specs.Facts.{WellFormed, IsFree}
 use Rattle.am_fortran.specs.declared.statement.Statement.{Statement}
 use Rattle.am_fortran.specs.declared.unit.Unit.{Unit as Subroutine}
@@ -32,11 +32,11 @@ use Rattle.am_exec.proofs.Held.{eq_is, eq_same}
 use Rattle.am_term.proofs.Tests.{fails}
 use Rattle.am_plan.specs.declared.call.Callee.{Callee}
 use Rattle.am_plan.specs.declared.call.Callee.TheVariants as callee
-use Rattle.am_plan.specs.Calls.{PlannedCall, calls, listed, made_by, made}
-use Rattle.am_plan.specs.Names.{output_for, Named, named, locals, name_of, local_name}
+use Rattle.am_plan.specs.Calls.{PlannedCall, calls, listed_option, made_by, made}
+use Rattle.am_plan.specs.Names.{output_for, Named, named_terms, locals, name_of_term, local_name}
 use Rattle.am_plan.specs.Numbering.{named_from}
 use Rattle.am_plan.specs.Plan.{IsPlan, statement_of, copies, is_set, function_at, functions_used}
-use Rattle.am_plan.specs.Answers.{Serves, AllServe, IsAnswerFor}
+use Rattle.am_plan.specs.Answers.{ServesOutput, AllServe, IsAnswerFor}
 use Rattle.am_plan.specs.Laws.{PlanGivesAnswer}
 use Rattle.am_plan.proofs.Numbered.{named-are}
 use Rattle.am_plan.proofs.Membership.{Among, Different, all-among, among-map, map-among, among-left, among-right, among-split, flat-among, among-flat, different-append}
@@ -57,7 +57,7 @@ use Rattle.am_plan.proofs.PlanDeclared.{head-good, none-lacks, declarations-good
 -- ---- what serves
 module _ (t : Theory) (d : Diagram) where
   abbrev ins : List SortId
-  ins = sorts_in d.inputs
+  ins = entry_sorts d.inputs
 
   pub serve-fine : (os : List (List ℕ × SortId)) (xs : List Term) → AllServe t d os xs → AllByRecursion (IsFine t ins) xs
   serve-fine [] [] s = tt
@@ -68,10 +68,10 @@ module _ (t : Theory) (d : Diagram) where
     serve-fine os xs s.1,
   )
 
-  serve-answered : (o : List ℕ × SortId) (x : Term) (os : List (List ℕ × SortId)) (xs : List Term) → AllServe t d os xs → Answered o x os xs → Serves t d o.1 x
+  serve-answered : (o : List ℕ × SortId) (x : Term) (os : List (List ℕ × SortId)) (xs : List Term) → AllServe t d os xs → Answered o x os xs → ServesOutput t d o.1 x
   serve-answered o x [] xs s a = absurd a
   serve-answered o x (p ∷ os) [] s a = absurd a
-  serve-answered o x (p ∷ os) (y ∷ xs) s (inl e) = subst (λ (q : List ℕ × SortId). Serves t d q.1 x) (sym e.0) (subst (λ (z : Term). Serves t d p.1 z) (sym e.1) s.0)
+  serve-answered o x (p ∷ os) (y ∷ xs) s (inl e) = subst (λ (q : List ℕ × SortId). ServesOutput t d q.1 x) (sym e.0) (subst (λ (z : Term). ServesOutput t d p.1 z) (sym e.1) s.0)
   serve-answered o x (p ∷ os) (y ∷ xs) s (inr a) = serve-answered o x os xs s.1 a
 
   -- the sort of a symbol at arguments is its result sort
@@ -87,12 +87,12 @@ module _ (t : Theory) (d : Diagram) where
       by_symbol (Some y) e = by_fit y (fit_places t.sig (sorts_of_terms t.sig ins xs) y.args) e
 
 -- the sort listed for a name
-listed-sort : (o : List ℕ × SortId) (es : List (List ℕ × SortId)) → Different (names_of es) → Among o es → sort_listed o.0 es ≡ Some o.1
+listed-sort : (o : List ℕ × SortId) (es : List (List ℕ × SortId)) → Different (entry_names es) → Among o es → sort_listed o.0 es ≡ Some o.1
 listed-sort o [] h a = absurd a
 listed-sort o (e ∷ es) h (inl s) =
     ap (λ (b : Bool). cond b (Some e.1) (sort_listed o.0 es)) (subst (λ (q : List ℕ × SortId). bytes_eq q.0 o.0 ≡ true) s (eq_same o.0)) ∙ ap (λ (q : List ℕ × SortId). Some q.1) (sym s)
 listed-sort o (e ∷ es) h (inr a) =
-    ap (λ (b : Bool). cond b (Some e.1) (sort_listed o.0 es)) (fails (bytes_eq e.0 o.0) (λ s. h.0 (subst (λ (n : List ℕ). Among n (names_of es)) (sym (eq_is e.0 o.0 s)) (among-map (λ (q : List ℕ × SortId). q.0) o es a))))
+    ap (λ (b : Bool). cond b (Some e.1) (sort_listed o.0 es)) (fails (bytes_eq e.0 o.0) (λ s. h.0 (subst (λ (n : List ℕ). Among n (entry_names es)) (sym (eq_is e.0 o.0 s)) (among-map (λ (q : List ℕ × SortId). q.0) o es a))))
     ∙ listed-sort o es h.1 a
 
 -- what a callee computes has a concrete sort
@@ -111,10 +111,10 @@ computed-sort t h f (callee.Function k) c =
 
 module _ (t : Theory) (d : Diagram) (answer : List Term) (u : Subroutine) (h : WellFormedTheory t) (wd : WellFormed t d) (serve : IsAnswerFor t d answer) (p : IsPlan t d answer u) where
   abbrev names : List Named
-  names = named t d answer
+  names = named_terms t d answer
 
   abbrev name : Term → List ℕ
-  name = name_of names
+  name = name_of_term names
 
   abbrev cs : List PlannedCall
   cs = calls t answer
@@ -128,13 +128,13 @@ module _ (t : Theory) (d : Diagram) (answer : List Term) (u : Subroutine) (h : W
   abbrev fs : List FortranFunction
   fs = functions_used t cs
 
-  fine : AllByRecursion (IsFine t (sorts_in d.inputs)) answer
+  fine : AllByRecursion (IsFine t (entry_sorts d.inputs)) answer
   fine = serve-fine t d d.outputs answer serve
 
   ready : AreReady t d [] cs
   ready = calls-ready t d h answer fine
 
-  fit : AllByRecursion (λ (c : PlannedCall). CalleeFits t (sorts_in d.inputs) c.args c.callee) cs
+  fit : AllByRecursion (λ (c : PlannedCall). CalleeFits t (entry_sorts d.inputs) c.args c.callee) cs
   fit = ready-fit t d h answer fine [] cs ready
 
   terms-differ : Different all_made
@@ -158,8 +158,8 @@ module _ (t : Theory) (d : Diagram) (answer : List Term) (u : Subroutine) (h : W
   named-each : (e : Named) → Among e names → IsNamed d.outputs answer 1 (1 + length all_made) e
   named-each e a = all-named d.outputs answer 1 all_made e (subst (λ (es : List Named). Among e es) names-are a)
 
-  output-no_local : (n : List ℕ) → Among n (names_of d.outputs) → is_local_name n ≡ false
-  output-no_local n a = (all-among (IsFree t) n (names_of d.outputs) wd.outputs_named a).not_local
+  output-no_local : (n : List ℕ) → Among n (entry_names d.outputs) → is_local_name n ≡ false
+  output-no_local n a = (all-among (IsFree t) n (entry_names d.outputs) wd.outputs_named a).not_local
 
   set_names : Different (map (λ (e : Named). e.0) names)
   set_names = subst (λ (es : List Named). Different (map (λ (e : Named). e.0) es)) (sym names-are) (names-differ d.outputs answer (outputs-differ t h d wd) output-no_local 1 all_made terms-differ few)
@@ -183,7 +183,7 @@ module _ (t : Theory) (d : Diagram) (answer : List Term) (u : Subroutine) (h : W
       let c = flat-among (λ (c : PlannedCall). function_at t c.callee) f cs (distinct-from _ f (flat_map (λ (c : PlannedCall). function_at t c.callee) cs) a) in
       by_callee c.0.callee c.2
     where
-      by_found : (k : ℕ) (o : Option FortranFunction) → slice_get t.functions k ≡ o → Among f (listed o) → (k : ℕ) × (slice_get t.functions k ≡ Some f)
+      by_found : (k : ℕ) (o : Option FortranFunction) → slice_get t.functions k ≡ o → Among f (listed_option o) → (k : ℕ) × (slice_get t.functions k ≡ Some f)
       by_found k None is a = absurd a
       by_found k (Some g) is (inl e) = (k, is ∙ ap Some (sym e))
       by_found k (Some g) is (inr a) = absurd a
@@ -207,7 +207,7 @@ module _ (t : Theory) (d : Diagram) (answer : List Term) (u : Subroutine) (h : W
   -- the functions of calls are declared
   calls-declared : (c : PlannedCall) (k : ℕ) (g : FortranFunction) → Among c cs → c.callee ≡ callee.Function k → slice_get t.functions k ≡ Some g → is_among g.name (declared_names (further u)) ≡ true
   calls-declared c k g a is at =
-      let used : Among g (function_at t c.callee) = subst (λ (x : Callee). Among g (function_at t x)) (sym is) (subst (λ (o : Option FortranFunction). Among g (listed o)) (sym at) (inl refl)) in
+      let used : Among g (function_at t c.callee) = subst (λ (x : Callee). Among g (function_at t x)) (sym is) (subst (λ (o : Option FortranFunction). Among g (listed_option o)) (sym at) (inl refl)) in
       let f = distinct-has (λ (f : FortranFunction). f.name) g (flat_map (λ (c : PlannedCall). function_at t c.callee) cs) (among-flat (λ (c : PlannedCall). function_at t c.callee) c g cs a used) in
       subst (λ (n : List ℕ). is_among n (declared_names (further u)) ≡ true) f.2
       (function-declared t h d wd u ls fs local-named ls-differ function-listed function-found fs-differ p.name p.dummies p.declarations f.0 f.1)
@@ -219,15 +219,15 @@ module _ (t : Theory) (d : Diagram) (answer : List Term) (u : Subroutine) (h : W
   made-sort : (f : SymId) (xs : List Term) → Among (App f xs) all_made → HasSort t f
   made-sort f xs a =
       let c = flat-among (made_by t) (App f xs) cs a in
-      let m = makes-so t d h answer fine c.0.args c.0.callee (App f xs) (all-among (λ (c : PlannedCall). CalleeFits t (sorts_in d.inputs) c.args c.callee) c.0 cs fit c.1) c.2 in
+      let m = makes-so t d h answer fine c.0.args c.0.callee (App f xs) (all-among (λ (c : PlannedCall). CalleeFits t (entry_sorts d.inputs) c.args c.callee) c.0 cs fit c.1) c.2 in
       subst (λ (g : SymId). HasSort t g) (sym (opened t d h answer fine f m.0 xs c.0.args m.1).0) (computed-sort t h m.0 c.0.callee m.2)
 
   target-by : (f : SymId) (xs : List Term) → HasSort t f → (e : Named) → Among e names → e.1 ≡ App f xs → IsNamed d.outputs answer 1 (1 + length all_made) e → is_target t d u (Some e.0) (result_sort t.sig f) ≡ true
   target-by f xs has e a is (inl out) =
       let o = output-answered e.1 d.outputs answer e.0 out in
       let served = serve-answered t d o.0 e.1 d.outputs answer serve o.2 in
-      let s = place-sort t.sig (sort_of t.sig (sorts_in d.inputs) e.1) o.0.1 served.sorted in
-      let result = applied-result t d f xs s.0 (ap (sort_of t.sig (sorts_in d.inputs)) (sym is) ∙ s.1) in
+      let s = place-sort t.sig (sort_of t.sig (entry_sorts d.inputs) e.1) o.0.1 served.sorted in
+      let result = applied-result t d f xs s.0 (ap (sort_of t.sig (entry_sorts d.inputs)) (sym is) ∙ s.1) in
       ap (λ (r : Option SortId). is_target t d u (Some e.0) r) result
       ∙ ap (λ (n : List ℕ). is_target t d u (Some n) (Some s.0)) (sym o.1)
       ∙ output-target t h d wd u ls fs local-named ls-differ function-listed function-found fs-differ p.name p.dummies p.declarations o.0 (answered-output o.0 e.1 d.outputs answer o.2) s.0 (alike s.0 o.0.1 s.2)
@@ -244,7 +244,7 @@ module _ (t : Theory) (d : Diagram) (answer : List Term) (u : Subroutine) (h : W
 
   -- ---- copies
   output-concrete : (o : List ℕ × SortId) → Among o d.outputs → is_some (rep_of t o.1) ≡ true
-  output-concrete o a = all-among (IsConcrete t) o.1 (sorts_in d.outputs) wd.outputs_concrete (among-map (λ (q : List ℕ × SortId). q.1) o d.outputs a)
+  output-concrete o a = all-among (IsConcrete t) o.1 (entry_sorts d.outputs) wd.outputs_concrete (among-map (λ (q : List ℕ × SortId). q.1) o d.outputs a)
 
   small_enough : (n : ℕ) → n ≤ 400 → n ≤ 10000
   small_enough n e = omega arith
@@ -275,29 +275,29 @@ module _ (t : Theory) (d : Diagram) (answer : List Term) (u : Subroutine) (h : W
   abbrev end : Store
   end = before ++ copied names d.outputs answer
 
-  before-names : names_in before ≡ names_of d.inputs ++ map (λ (e : Named). e.0) names
+  before-names : names_in before ≡ entry_names d.inputs ++ map (λ (e : Named). e.0) names
   before-names =
       ap (λ (es : Store). names_in (inputs_held d.inputs ++ es)) made-pairs
       ∙ map-append (λ (e : List ℕ × Term). e.0) (inputs_held d.inputs) names
       ∙ ap (λ (ns : List (List ℕ)). ns ++ map (λ (e : Named). e.0) names) (inputs-names 0 d.inputs)
 
-  input-no_name : (n : List ℕ) → Among n (names_of d.inputs) → Among n (map (λ (e : Named). e.0) names) → ⊥
+  input-no_name : (n : List ℕ) → Among n (entry_names d.inputs) → Among n (map (λ (e : Named). e.0) names) → ⊥
   input-no_name n a b = let e = map-among (λ (e : Named). e.0) n names b in by_name e.0 e.2 (named-each e.0 e.1)
     where
       by_name : (e : Named) → n ≡ e.0 → IsNamed d.outputs answer 1 (1 + length all_made) e → ⊥
       by_name e is (inl out) =
           let o = output-answered e.1 d.outputs answer e.0 out in
-          input-no_output t h d wd n a (subst (λ (m : List ℕ). Among m (names_of d.outputs)) (o.1 ∙ sym is) (answered-name o.0 e.1 d.outputs answer o.2))
-      by_name e is (inr q) = true≢false (sym (local-is q.1.0) ∙ ap is_local_name (sym (is ∙ q.1.1)) ∙ (all-among (IsFree t) n (names_of d.inputs) wd.inputs_named a).not_local)
+          input-no_output t h d wd n a (subst (λ (m : List ℕ). Among m (entry_names d.outputs)) (o.1 ∙ sym is) (answered-name o.0 e.1 d.outputs answer o.2))
+      by_name e is (inr q) = true≢false (sym (local-is q.1.0) ∙ ap is_local_name (sym (is ∙ q.1.1)) ∙ (all-among (IsFree t) n (entry_names d.inputs) wd.inputs_named a).not_local)
 
   before-differ : Different (names_in before)
-  before-differ = subst (λ (ns : List (List ℕ)). Different ns) (sym before-names) (different-append (names_of d.inputs) (map (λ (e : Named). e.0) names) (inputs-differ t h d wd) set_names input-no_name)
+  before-differ = subst (λ (ns : List (List ℕ)). Different ns) (sym before-names) (different-append (entry_names d.inputs) (map (λ (e : Named). e.0) names) (inputs-differ t h d wd) set_names input-no_name)
 
   end-differ : Different (names_in end)
   end-differ = subst (λ (ns : List (List ℕ)). Different ns) (sym (map-append (λ (e : List ℕ × Term). e.0) before (copied names d.outputs answer)))
       (different-append (names_in before) (names_in (copied names d.outputs answer)) before-differ (copied-differ names d.outputs answer (outputs-differ t h d wd)) apart)
     where
-      by_side : (n : List ℕ) → Among n (names_of d.outputs) × (is_set names n ≡ false) → Among n (names_of d.inputs) ⊎ Among n (map (λ (e : Named). e.0) names) → ⊥
+      by_side : (n : List ℕ) → Among n (entry_names d.outputs) × (is_set names n ≡ false) → Among n (entry_names d.inputs) ⊎ Among n (map (λ (e : Named). e.0) names) → ⊥
       by_side n r (inl a) = input-no_output t h d wd n a r.0
       by_side n r (inr a) = true≢false (sym (among-is n (map (λ (e : Named). e.0) names) a) ∙ r.1)
 
@@ -305,7 +305,7 @@ module _ (t : Theory) (d : Diagram) (answer : List Term) (u : Subroutine) (h : W
       apart n a b =
           let e = map-among (λ (e : List ℕ × Term). e.0) n (copied names d.outputs answer) b in
           let r = copied-so names e.0 d.outputs answer e.1 in
-          by_side n (subst (λ (m : List ℕ). Among m (names_of d.outputs)) (sym e.2) r.0, ap (is_set names) e.2 ∙ r.1) (among-split n (names_of d.inputs) (map (λ (e : Named). e.0) names) (subst (λ (ns : List (List ℕ)). Among n ns) before-names a))
+          by_side n (subst (λ (m : List ℕ). Among m (entry_names d.outputs)) (sym e.2) r.0, ap (is_set names) e.2 ∙ r.1) (among-split n (entry_names d.inputs) (map (λ (e : Named). e.0) names) (subst (λ (ns : List (List ℕ)). Among n ns) before-names a))
 
   -- each output's name holds its answer
   output-held : (o : List ℕ × SortId) (x : Term) → Answered o x d.outputs answer → Among (o.0, x) end

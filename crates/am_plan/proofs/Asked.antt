@@ -18,16 +18,17 @@ use Rattle.am_term.specs.Symbols.{is_computable}
 use Rattle.am_term.specs.Sorting.{fits_place, fit_places, result_at, sort_of, sorts_of, sort_of-In, sort_of-App}
 use Rattle.am_term.specs.Weight.{nodes, nodes-App}
 use Rattle.am_term.proofs.Tests.{and_left, and_right}
+use Rattle.am_clause.specs.Final.{is_computable_symbol}
 use Rattle.am_theory.specs.declared.theory.LiteralDecl.{LiteralDecl}
 use Rattle.am_theory.specs.declared.theory.Theory.{Theory}
-use Rattle.am_theory.specs.Lookups.{args_of, argument_sorts, literal_of}
+use Rattle.am_theory.specs.Lookups.{argument_sorts_of, argument_sorts, literal_declared}
 use Rattle.am_theory.specs.Facts.{WellFormed, Stands, IsLiteral}
 use Rattle.am_diagram.specs.declared.diagram.Diagram.{Diagram}
-use Rattle.am_diagram.specs.Listed.{sorts_in}
+use Rattle.am_diagram.specs.Listed.{entry_sorts}
 use Rattle.am_plan.specs.declared.call.Callee.{Callee}
 use Rattle.am_plan.specs.declared.call.Callee.TheVariants as callee
-use Rattle.am_plan.specs.Calls.{PlannedCall, under_step, terms_below, completed, callee_of, call_with, call_at, call_of, listed, outputs_at, value_at, made_by}
-use Rattle.am_plan.specs.Answers.{is_computable_symbol, ready_step, is_ready}
+use Rattle.am_plan.specs.Calls.{PlannedCall, under_step, terms_below, completed, callee_of, call_with, call_at, call_of, listed_option, outputs_made, value_made, made_by}
+use Rattle.am_plan.specs.Answers.{ready_step, is_ready}
 use Rattle.am_plan.proofs.Membership.{Among, all-among, among-map, among-left, among-right, among-split, among-flat}
 use Rattle.am_plan.proofs.Standing.{Available}
 use Rattle.am_plan.proofs.Callees.{Computes, callee-computes, no-routine, no-function, contains-among, routine-stands, stands-args, computed-literal, literal-there, literal-found}
@@ -56,10 +57,10 @@ terms_below-App f args = para-App (List Term) under_step f args ∙ below_args a
 
 -- what terms ask for
 abbrev pub asks : Theory → List Term → List PlannedCall
-asks t = flat_map (λ (x : Term). listed (call_of t x))
+asks t = flat_map (λ (x : Term). listed_option (call_of t x))
 
 pub asks-append : (t : Theory) (xs ys : List Term) → asks t (xs ++ ys) ≡ asks t xs ++ asks t ys
-asks-append t xs ys = flat_map-append (λ (x : Term). listed (call_of t x)) xs ys
+asks-append t xs ys = flat_map-append (λ (x : Term). listed_option (call_of t x)) xs ys
 
 pub call_of-In : (t : Theory) (k : ℕ) → call_of t (In k) ≡ None
 unfolding call_of
@@ -71,13 +72,13 @@ call_of-App t f args = ap (call_at t) (outs-App f args)
 
 -- what a term asks for: what its arguments do, and then itself
 pub asks-In : (t : Theory) (k : ℕ) → asks t (completed (In k)) ≡ []
-asks-In t k = ap (λ (xs : List Term). asks t (xs ++ In k ∷ [])) (terms_below-In k) ∙ ap (λ (o : Option PlannedCall). listed o ++ []) (call_of-In t k)
+asks-In t k = ap (λ (xs : List Term). asks t (xs ++ In k ∷ [])) (terms_below-In k) ∙ ap (λ (o : Option PlannedCall). listed_option o ++ []) (call_of-In t k)
 
-pub asks-App : (t : Theory) (f : SymId) (args : List Term) → asks t (completed (App f args)) ≡ asks t (flat_map completed args) ++ (listed (option_map (call_with args) (callee_of t f)) ++ [])
+pub asks-App : (t : Theory) (f : SymId) (args : List Term) → asks t (completed (App f args)) ≡ asks t (flat_map completed args) ++ (listed_option (option_map (call_with args) (callee_of t f)) ++ [])
 asks-App t f args =
     ap (λ (xs : List Term). asks t (xs ++ App f args ∷ [])) (terms_below-App f args)
     ∙ asks-append t (flat_map completed args) (App f args ∷ [])
-    ∙ ap (λ (o : Option PlannedCall). asks t (flat_map completed args) ++ (listed o ++ [])) (call_of-App t f args)
+    ∙ ap (λ (o : Option PlannedCall). asks t (flat_map completed args) ++ (listed_option o ++ [])) (call_of-App t f args)
 
 -- ---- a term that is fit to be computed
 pub record IsFine (t : Theory) (ins : List SortId) (x : Term) : Type 0 where
@@ -182,18 +183,18 @@ module _ (t : Theory) (d : Diagram) where
   -- ---- what a term asks for is ready in order, and makes it available
   module _ (h : WellFormed t) where
     abbrev ins : List SortId
-    ins = sorts_in d.inputs
+    ins = entry_sorts d.inputs
 
     abbrev made_of : List PlannedCall → List Term
     made_of = flat_map (made_by t)
 
     pub callee-fits : (f : SymId) (args : List Term) (y : Symbol) (c : Callee) → slice_get t.sig.symbols f.0 ≡ Some y → fit_places t.sig (sorts_of t.sig ins args) y.args ≡ true → Computes t f c → CalleeFits t ins args c
     callee-fits f args y (callee.Routine k) at fit c = (c.0, c.1, ap (fit_places t.sig (sorts_of t.sig ins args)) (sym (stands-args t h f kind.Output c.0.inputs y at (routine-stands t h k c.0 f c.1 c.2))) ∙ fit)
-    callee-fits f args y (callee.Function k) at fit c = (c.0, c.1, ap (fit_places t.sig (sorts_of t.sig ins args)) (ap (argument_sorts t.sig) c.2 ∙ ap args_of at) ∙ fit)
+    callee-fits f args y (callee.Function k) at fit c = (c.0, c.1, ap (fit_places t.sig (sorts_of t.sig ins args)) (ap (argument_sorts t.sig) c.2 ∙ ap argument_sorts_of at) ∙ fit)
 
     pub callee-makes : (f : SymId) (args : List Term) (c : Callee) → Computes t f c → Among (App f args) (made_by t (call_with args c))
-    callee-makes f args (callee.Routine k) c = subst (λ (ys : List Term). Among (App f args) ys) (sym (ap (outputs_at args) c.1)) (among-map (λ (g : SymId). App g args) f c.0.outputs c.2)
-    callee-makes f args (callee.Function k) c = subst (λ (ys : List Term). Among (App f args) ys) (sym (ap (value_at args) c.1)) (inl (ap (λ (g : SymId). App g args) (sym c.2)))
+    callee-makes f args (callee.Routine k) c = subst (λ (ys : List Term). Among (App f args) ys) (sym (ap (outputs_made args) c.1)) (among-map (λ (g : SymId). App g args) f c.0.outputs c.2)
+    callee-makes f args (callee.Function k) c = subst (λ (ys : List Term). Among (App f args) ys) (sym (ap (value_made args) c.1)) (inl (ap (λ (g : SymId). App g args) (sym c.2)))
 
     abbrev Ordered : Term → Type 0
     Ordered x = IsFine t ins x → AreReady t d [] (asks t (completed x)) × Available t d (made_of (asks t (completed x))) x
@@ -201,7 +202,7 @@ module _ (t : Theory) (d : Diagram) where
     abbrev AllOrdered : List Term → Type 0
     AllOrdered xs = AllByRecursion (IsFine t ins) xs → AreReady t d [] (asks t (flat_map completed xs)) × AllByRecursion (Available t d (made_of (asks t (flat_map completed xs)))) xs
 
-    entry-there : (es : List (List ℕ × SortId)) (k : ℕ) → is_some (slice_get (sorts_in es) k) ≡ true → (e : List ℕ × SortId) × (slice_get es k ≡ Some e)
+    entry-there : (es : List (List ℕ × SortId)) (k : ℕ) → is_some (slice_get (entry_sorts es) k) ≡ true → (e : List ℕ × SortId) × (slice_get es k ≡ Some e)
     entry-there [] k s = absurd (true≢false (sym s))
     entry-there (e ∷ es) zero s = (e, refl)
     entry-there (e ∷ es) (suc k) s = entry-there es k s
@@ -217,7 +218,7 @@ module _ (t : Theory) (d : Diagram) where
         let computes = callee-computes t f c is in
         let before = asks t (flat_map completed args) in
         let this = call_with args c in
-        let whole : asks t (completed (App f args)) ≡ before ++ this ∷ [] = asks-App t f args ∙ ap (λ (o : Option Callee). before ++ (listed (option_map (call_with args) o) ++ [])) is in
+        let whole : asks t (completed (App f args)) ≡ before ++ this ∷ [] = asks-App t f args ∙ ap (λ (o : Option Callee). before ++ (listed_option (option_map (call_with args) o) ++ [])) is in
         let few : sum_by nodes args < 10000 = below (sum_by nodes args) p.few in (
           subst (λ (cs : List PlannedCall). AreReady t d [] cs) (sym whole)
               (ready-append [] before (this ∷ []) ready (record { available = available; fit = callee-fits f args p.symbol c p.there p.fit computes; small = few }, tt)),
@@ -258,7 +259,7 @@ module _ (t : Theory) (d : Diagram) where
       decl : LiteralDecl
       index : ℕ
       there : slice_get t.literals index ≡ Some decl
-      found : literal_of t f ≡ Some decl
+      found : literal_declared t f ≡ Some decl
       symbol : decl.symbol ≡ f
       stands : Stands t f kind.Literal []
 
@@ -278,10 +279,10 @@ module _ (t : Theory) (d : Diagram) where
         → AreReady t d [] (asks t (completed (App f args))) × Available t d (made_of (asks t (completed (App f args)))) (App f args)
     literal-ordered f args p is ready =
         let before = asks t (flat_map completed args) in
-        let whole : asks t (completed (App f args)) ≡ before = asks-App t f args ∙ ap (λ (o : Option Callee). before ++ (listed (option_map (call_with args) o) ++ [])) is ∙ append-nil before in
+        let whole : asks t (completed (App f args)) ≡ before = asks-App t f args ∙ ap (λ (o : Option Callee). before ++ (listed_option (option_map (call_with args) o) ++ [])) is ∙ append-nil before in
         let l = uncalled-literal f args p is in (
           subst (λ (cs : List PlannedCall). AreReady t d [] cs) (sym whole) ready,
-          inr (inl (record { decl = l.decl; index = l.index; there = l.there; found = ap (literal_of t) l.symbol ∙ l.found; is = ap (App f) (uncalled-none f args p is) ∙ ap (λ (g : SymId). App g []) (sym l.symbol) })),
+          inr (inl (record { decl = l.decl; index = l.index; there = l.there; found = ap (literal_declared t) l.symbol ∙ l.found; is = ap (App f) (uncalled-none f args p is) ∙ ap (λ (g : SymId). App g []) (sym l.symbol) })),
         )
 
     app-ordered : (f : SymId) (args : List Term) → AllOrdered args → Ordered (App f args)

@@ -20,7 +20,7 @@ use Rattle.am_clause.proofs.Firsts.{with_new-none, with_new-append, with_new-old
 use Rattle.am_theory.specs.declared.theory.Theory.{Theory}
 use Rattle.am_plan.specs.declared.call.Callee.{Callee}
 use Rattle.am_plan.specs.declared.call.Callee.TheVariants as callee
-use Rattle.am_plan.specs.Calls.{PlannedCall, under_step, terms_below, completed, callee_of, call_with, call_at, call_of, listed, same_callee, same_call, asked, calls}
+use Rattle.am_plan.specs.Calls.{PlannedCall, under_step, terms_below, completed, callee_of, call_with, call_at, call_of, listed_option, same_callee, same_call, asks_for, calls}
 
 -- ---- the terms in a term
 pub below-Var : (n : ℕ) (s : SortId) → terms_below (Var n s) ≡ []
@@ -51,24 +51,24 @@ call_of-App t f args = ap (call_at t) (outs-App f args)
 -- ---- the calls that terms ask for
 -- of one completed term
 abbrev pub own : Theory → Term → List PlannedCall
-own t x = listed (call_of t x)
+own t x = listed_option (call_of t x)
 
-pub asked-nil : (t : Theory) → asked t [] ≡ []
+pub asked-nil : (t : Theory) → asks_for t [] ≡ []
 asked-nil t = refl
 
-pub asked-append : (t : Theory) (xs ys : List Term) → asked t (xs ++ ys) ≡ asked t xs ++ asked t ys
+pub asked-append : (t : Theory) (xs ys : List Term) → asks_for t (xs ++ ys) ≡ asks_for t xs ++ asks_for t ys
 asked-append t xs ys = ap (flat_map (own t)) (flat_map-append completed xs ys) ∙ flat_map-append (own t) (flat_map completed xs) (flat_map completed ys)
 
-asked-one : (t : Theory) (x : Term) → asked t (x ∷ []) ≡ flat_map (own t) (terms_below x) ++ own t x
+asked-one : (t : Theory) (x : Term) → asks_for t (x ∷ []) ≡ flat_map (own t) (terms_below x) ++ own t x
 asked-one t x = ap (flat_map (own t)) (append-nil (completed x)) ∙ flat_map-append (own t) (terms_below x) (x ∷ []) ∙ ap (λ cs. flat_map (own t) (terms_below x) ++ cs) (append-nil (own t x))
 
-pub asked-Var : (t : Theory) (n : ℕ) (s : SortId) → asked t (Var n s ∷ []) ≡ []
+pub asked-Var : (t : Theory) (n : ℕ) (s : SortId) → asks_for t (Var n s ∷ []) ≡ []
 asked-Var t n s = asked-one t (Var n s) ∙ rw (below-Var n s, call_of-Var t n s) refl
 
-pub asked-In : (t : Theory) (k : ℕ) → asked t (In k ∷ []) ≡ []
+pub asked-In : (t : Theory) (k : ℕ) → asks_for t (In k ∷ []) ≡ []
 asked-In t k = asked-one t (In k) ∙ rw (below-In k, call_of-In t k) refl
 
-pub asked-App : (t : Theory) (f : SymId) (args : List Term) → asked t (App f args ∷ []) ≡ asked t args ++ listed (option_map (call_with args) (callee_of t f))
+pub asked-App : (t : Theory) (f : SymId) (args : List Term) → asks_for t (App f args ∷ []) ≡ asks_for t args ++ listed_option (option_map (call_with args) (callee_of t f))
 asked-App t f args = asked-one t (App f args) ∙ rw (below-App f args, call_of-App t f args) refl
 
 -- ---- when two calls are one
@@ -112,14 +112,14 @@ noted-new = with_new-new same_call
 
 -- one more term
 pub terms-noted : (t : Theory) (seen : List PlannedCall) (xs : List Term) (i : ℕ) (d : Term) → i < length xs
-    → with_new same_call seen (asked t (take (i + 1) xs)) ≡ with_new same_call (with_new same_call seen (asked t (take i xs))) (asked t (get_or xs i d ∷ []))
+    → with_new same_call seen (asks_for t (take (i + 1) xs)) ≡ with_new same_call (with_new same_call seen (asks_for t (take i xs))) (asks_for t (get_or xs i d ∷ []))
 terms-noted t seen xs i d h =
-    ap (λ (ys : List Term). with_new same_call seen (asked t ys)) (take_more xs i d h)
+    ap (λ (ys : List Term). with_new same_call seen (asks_for t ys)) (take_more xs i d h)
     ∙ ap (with_new same_call seen) (asked-append t (take i xs) (get_or xs i d ∷ []))
-    ∙ noted-both seen (asked t (take i xs)) (asked t (get_or xs i d ∷ []))
+    ∙ noted-both seen (asks_for t (take i xs)) (asks_for t (get_or xs i d ∷ []))
 
-pub all-noted : (t : Theory) (answer : List Term) → with_new same_call [] (asked t answer) ≡ calls t answer
+pub all-noted : (t : Theory) (answer : List Term) → with_new same_call [] (asks_for t answer) ≡ calls t answer
 unfolding calls
-all-noted t answer = with_new-distinct same_call same_call-sound same_call-refl (asked t answer)
+all-noted t answer = with_new-distinct same_call same_call-sound same_call-refl (asks_for t answer)
 
 pub ruleset asking = (common_steps, nat_tests, the_lemmas, asked-nil, asked-Var, asked-In, asked-App, noted-none, noted-both, noted-old, noted-new, terms-noted, all-noted)

@@ -19,7 +19,7 @@ use Rattle.am_theory.specs.declared.theory.Theory.{Theory}
 use Rattle.am_theory.specs.Lookups.{result_sort, argument_sorts, routine_named, function_named}
 use Rattle.am_theory.specs.Facts.{WellFormed, called_names}
 use Rattle.am_diagram.specs.declared.diagram.Diagram.{Diagram}
-use Rattle.am_diagram.specs.Listed.{sorts_in}
+use Rattle.am_diagram.specs.Listed.{entry_sorts}
 use Rattle.am_fortran.specs.declared.statement.Operand.{Operand}
 use Rattle.am_fortran.specs.declared.statement.Operand.TheVariants as operand
 use Rattle.am_fortran.specs.declared.statement.Statement.{Statement}
@@ -27,7 +27,7 @@ use Rattle.am_fortran.specs.declared.statement.Statement.TheVariants.{Call, Appl
 use Rattle.am_fortran.specs.declared.unit.Unit.{Unit as Subroutine}
 use Rattle.am_exec.specs.Run.{name_in}
 use Rattle.am_exec.specs.Lawful.{further, listed_target, call_targets}
-use Rattle.am_exec.specs.States.{Store, is_held, entries, operand_terms}
+use Rattle.am_exec.specs.States.{Store, is_held, entries_held, operand_terms}
 use Rattle.am_exec.specs.Effects.{read_by_call, set_by_call, call_terms, applied_terms, call_sorts, applied_sort, put}
 use Rattle.am_exec.specs.ItemFaults.{is_unknown_call, call_count, function_count, first_unset, fit_operands, fits_call, fits_function, is_target, are_targets, declared_names, lacks_dummy, is_large}
 use Rattle.am_exec.proofs.Held.{eq_is, eq_same, or_both}
@@ -94,7 +94,7 @@ one-count m n e = grind (arith, nat_tests)
 
 -- a statement that passes, and the pairs that it puts
 pub record Puts (t : Theory) (d : Diagram) (u : Subroutine) (store : Store) (s : Statement) (new : Store) : Type 0 where
-  pub passes : Passes t d u (sorts_in d.inputs) store s
+  pub passes : Passes t d u (entry_sorts d.inputs) store s
   pub put_is : put t d store s ≡ store ++ new
 
 -- terms under their names
@@ -125,7 +125,7 @@ module _ (name : Term → List ℕ) where
 
   module _ (t : Theory) (h : WellFormed t) (d : Diagram) (u : Subroutine) (lacks : lacks_dummy u ≡ false) (op : Term → Operand) (store : Store) (xs : List Term) (standing : AllByRecursion (λ (x : Term). StandsFor t store (op x) x) xs) (small : sum_by nodes xs < 10000) where
     abbrev ins : List SortId
-    ins = sorts_in d.inputs
+    ins = entry_sorts d.inputs
 
     once : (ns : List (List ℕ)) → Different ns → ((n : List ℕ) → Among n ns → Among n (names_in store) → ⊥) → (list_any (is_held store) ns || not (are_distinct ns)) ≡ false
     once ns differ new = or_both (list_any (is_held store) ns) (not (are_distinct ns)) (none-held store ns new) (ap not (different-distinct ns differ))
@@ -180,10 +180,10 @@ module _ (name : Term → List ℕ) where
               ∙ outputs-small xs r.outputs small;
         };
         put_is = ap (λ (es : Store). store ++ es)
-            (ap (λ (o : Option Routine). entries (map name_in (set_by_call o args)) (call_terms t store o args)) found
-            ∙ ap (λ (os : List Operand). entries (map name_in os) (map (λ (f : SymId). App f (operand_terms t store r.inputs (take (length r.inputs) args))) r.outputs)) behind
-            ∙ ap (λ (ns : List (Option (List ℕ))). entries ns (map (λ (f : SymId). App f (operand_terms t store r.inputs (take (length r.inputs) args))) r.outputs)) (names-named made)
-            ∙ ap (λ (zs : List Term). entries (map (λ (x : Term). Some (name x)) made) (map (λ (f : SymId). App f zs) r.outputs)) terms-are
+            (ap (λ (o : Option Routine). entries_held (map name_in (set_by_call o args)) (call_terms t store o args)) found
+            ∙ ap (λ (os : List Operand). entries_held (map name_in os) (map (λ (f : SymId). App f (operand_terms t store r.inputs (take (length r.inputs) args))) r.outputs)) behind
+            ∙ ap (λ (ns : List (Option (List ℕ))). entries_held ns (map (λ (f : SymId). App f (operand_terms t store r.inputs (take (length r.inputs) args))) r.outputs)) (names-named made)
+            ∙ ap (λ (zs : List Term). entries_held (map (λ (x : Term). Some (name x)) made) (map (λ (f : SymId). App f zs) r.outputs)) terms-are
             ∙ entries-zip name made);
       }
 
@@ -219,8 +219,8 @@ module _ (name : Term → List ℕ) where
               ∙ outputs-small xs (g.symbol ∷ []) small;
         };
         put_is = ap (λ (es : Store). store ++ es)
-            (ap (λ (o : Option FortranFunction). entries (Some (name value) ∷ []) (applied_terms t store o (map op xs))) applied
-            ∙ ap (λ (zs : List Term). entries (Some (name value) ∷ []) (App g.symbol zs ∷ [])) (operands-are t h ins store op xs places standing fit));
+            (ap (λ (o : Option FortranFunction). entries_held (Some (name value) ∷ []) (applied_terms t store o (map op xs))) applied
+            ∙ ap (λ (zs : List Term). entries_held (Some (name value) ∷ []) (App g.symbol zs ∷ [])) (operands-are t h ins store op xs places standing fit));
       }
         where
           only : (Among (name value) (names_in store) → ⊥) → (n : List ℕ) → Among n (name value ∷ []) → Among n (names_in store) → ⊥

@@ -15,8 +15,8 @@ use Rattle.am_theory.specs.declared.theory.Theory.{Theory}
 use Rattle.am_theory.specs.Facts.{WellFormed, Stands, IsRoutine, IsFunction, IsLiteral, symbol_numbers, is_number_among, are_distinct_numbers}
 use Rattle.am_plan.specs.declared.call.Callee.{Callee}
 use Rattle.am_plan.specs.declared.call.Callee.TheVariants as callee
-use Rattle.am_plan.specs.Calls.{has_symbol, or_else, routine_from, function_from, callee_of}
-use Rattle.am_theory.specs.Lookups.{literal_of}
+use Rattle.am_plan.specs.Calls.{has_symbol, first_there, routine_from, function_from, callee_of}
+use Rattle.am_theory.specs.Lookups.{literal_declared}
 use Rattle.am_plan.proofs.Membership.{Among, Different, all-among, among-map, among-flat, different-left, different-right, different-apart}
 use Rattle.am_plan.proofs.Standing.{all-index}
 use Rattle.am_plan.proofs.CallStatements.{index-among}
@@ -107,7 +107,7 @@ pub callee-computes : (t : Theory) (f : SymId) (c : Callee) → callee_of t f �
 unfolding callee_of
 callee-computes t f c e = by_first (routine_from 0 f t.routines) refl e
   where
-    by_first : (o : Option Callee) → routine_from 0 f t.routines ≡ o → or_else o (function_from 0 f t.functions) ≡ Some c → Computes t f c
+    by_first : (o : Option Callee) → routine_from 0 f t.routines ≡ o → first_there o (function_from 0 f t.functions) ≡ Some c → Computes t f c
     by_first (Some b) is e =
         let q = from-routine 0 f t.routines c (is ∙ e) in
         let here : 0 + q.index ≡ q.index = omega arith in
@@ -145,7 +145,7 @@ pub no-routine : (t : Theory) (f : SymId) (r : Routine) → Among r t.routines �
 unfolding callee_of
 no-routine t f r a o e = by_first (routine_from 0 f t.routines) refl e
   where
-    by_first : (q : Option Callee) → routine_from 0 f t.routines ≡ q → or_else q (function_from 0 f t.functions) ≡ None → ⊥
+    by_first : (q : Option Callee) → routine_from 0 f t.routines ≡ q → first_there q (function_from 0 f t.functions) ≡ None → ⊥
     by_first (Some b) is e = absurd cc
     by_first None is e = routine_from-some 0 f r t.routines a o is
 
@@ -153,7 +153,7 @@ pub no-function : (t : Theory) (f : SymId) (g : FortranFunction) → Among g t.f
 unfolding callee_of
 no-function t f g a o e = by_first (routine_from 0 f t.routines) e
   where
-    by_first : (q : Option Callee) → or_else q (function_from 0 f t.functions) ≡ None → ⊥
+    by_first : (q : Option Callee) → first_there q (function_from 0 f t.functions) ≡ None → ⊥
     by_first (Some b) e = absurd cc
     by_first None e = function_from-some 0 f g t.functions a o e
 
@@ -184,27 +184,27 @@ module _ (t : Theory) (h : WellFormed t) where
       ap is_literal (stands-kind f kind.Value g.args y at (subst (λ (x : SymId). Stands t x kind.Value g.args) c.2 g.stands))
 
   -- the literal of a symbol is a literal's
-  pub literal-found : (f : SymId) (l : LiteralDecl) → literal_of t f ≡ Some l → Among l t.literals × (l.symbol ≡ f)
+  pub literal-found : (f : SymId) (l : LiteralDecl) → literal_declared t f ≡ Some l → Among l t.literals × (l.symbol ≡ f)
   literal-found f l e =
       let r = find-among (λ (m : LiteralDecl). m.symbol.0 == f.0) t.literals l e in
       (r.0, symbol-numbered l.symbol f (number-is l.symbol.0 f.0 r.1))
 
-  pub literal-kind : (f : SymId) (l : LiteralDecl) (y : Symbol) → slice_get t.sig.symbols f.0 ≡ Some y → literal_of t f ≡ Some l → is_literal y.kind ≡ true
+  pub literal-kind : (f : SymId) (l : LiteralDecl) (y : Symbol) → slice_get t.sig.symbols f.0 ≡ Some y → literal_declared t f ≡ Some l → is_literal y.kind ≡ true
   literal-kind f l y at e =
       let r = literal-found f l e in
       let s = (all-among (IsLiteral t) l t.literals h.literals r.0).stands in
       ap is_literal (stands-kind f kind.Literal [] y at (subst (λ (x : SymId). Stands t x kind.Literal []) r.1 s))
 
   -- what a callee computes is no literal
-  pub computed-literal : (f : SymId) (c : Callee) (y : Symbol) → slice_get t.sig.symbols f.0 ≡ Some y → Computes t f c → literal_of t f ≡ None
-  computed-literal f c y at computes = by_literal (literal_of t f) refl
+  pub computed-literal : (f : SymId) (c : Callee) (y : Symbol) → slice_get t.sig.symbols f.0 ≡ Some y → Computes t f c → literal_declared t f ≡ None
+  computed-literal f c y at computes = by_literal (literal_declared t f) refl
     where
-      by_literal : (o : Option LiteralDecl) → literal_of t f ≡ o → o ≡ None
+      by_literal : (o : Option LiteralDecl) → literal_declared t f ≡ o → o ≡ None
       by_literal None e = refl
       by_literal (Some l) e = absurd (true≢false (sym (literal-kind f l y at e) ∙ computed-no_literal f c y at computes))
 
   -- a literal is found under its number
-  pub literal-there : (f : SymId) (y : Symbol) → slice_get t.sig.symbols f.0 ≡ Some y → y.kind ≡ kind.Literal → (l : LiteralDecl) × (literal_of t f ≡ Some l)
+  pub literal-there : (f : SymId) (y : Symbol) → slice_get t.sig.symbols f.0 ≡ Some y → y.kind ≡ kind.Literal → (l : LiteralDecl) × (literal_declared t f ≡ Some l)
   literal-there f y at is =
       let c = h.constants f.0 y at is in
       some_found c.0 t.literals (contains-among t.literals c.0 c.1) c.2

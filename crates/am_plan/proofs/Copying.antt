@@ -26,17 +26,17 @@ use Rattle.am_theory.specs.Lookups.{known, rep_of, copy_of, result_of, result_so
 use Rattle.am_theory.specs.Facts.{WellFormed, IsLiteral, called_names, is_array, is_in_range, copies_when_array, is_represented}
 use Rattle.am_theory.specs.Faults.{suits}
 use Rattle.am_diagram.specs.declared.diagram.Diagram.{Diagram}
-use Rattle.am_diagram.specs.Listed.{sorts_in}
+use Rattle.am_diagram.specs.Listed.{entry_sorts}
 use Rattle.am_fortran.specs.declared.statement.Operand.{Operand}
 use Rattle.am_fortran.specs.declared.statement.Operand.TheVariants as operand
 use Rattle.am_fortran.specs.declared.statement.Statement.{Statement}
 use Rattle.am_fortran.specs.declared.statement.Statement.TheVariants.{Call, Assign}
 use Rattle.am_fortran.specs.declared.unit.Unit.{Unit as Subroutine}
 use Rattle.am_exec.specs.Run.{name_in, output_sort}
-use Rattle.am_exec.specs.Literals.{literal_at}
+use Rattle.am_exec.specs.Literals.{literal_written}
 use Rattle.am_exec.specs.Types.{is_scalar}
 use Rattle.am_exec.specs.Lawful.{call_targets}
-use Rattle.am_exec.specs.States.{Store, term_held, is_held, entries, listed_term}
+use Rattle.am_exec.specs.States.{Store, term_held, is_held, entries_held, listed_term}
 use Rattle.am_exec.specs.Effects.{read_by_call, set_by_call, call_terms, call_sorts, literal_for, literal_term_of, literal_sort, term_sort}
 use Rattle.am_exec.specs.ItemFaults.{is_unknown_call, call_count, or_later, first_unset, fits_call, is_copied_by, is_name_of, is_scalar_rep, is_scalar_sort, is_target, are_targets, lacks_dummy, is_large}
 use Rattle.am_exec.proofs.Held.{eq_is, eq_same, or_both}
@@ -114,7 +114,7 @@ not-large n e = grind (arith, nat_tests)
 
 -- a term for an output that no name of the store is
 pub record Copies (t : Theory) (d : Diagram) (u : Subroutine) (o : List ℕ × SortId) (x : Term) : Type 0 where
-  pub fit : term_fits t.sig (sorts_in d.inputs) x o.1 ≡ true
+  pub fit : term_fits t.sig (entry_sorts d.inputs) x o.1 ≡ true
   pub place : output_sort d o.0 ≡ Some o.1
   pub target : (s : SortId) → rep_of t s ≡ rep_of t o.1 → is_target t d u (Some o.0) (Some s) ≡ true
   pub small : nodes x ≤ 10000
@@ -122,7 +122,7 @@ pub record Copies (t : Theory) (d : Diagram) (u : Subroutine) (o : List ℕ × S
 
 module _ (t : Theory) (h : WellFormed t) (d : Diagram) (u : Subroutine) (lacks : lacks_dummy u ≡ false) (store : Store) (o : List ℕ × SortId) (x : Term) (c : Copies t d u o x) (new : Among o.0 (names_in store) → ⊥) where
   abbrev ins : List SortId
-  ins = sorts_in d.inputs
+  ins = entry_sorts d.inputs
 
   only : (n : List ℕ) → Among n (o.0 ∷ []) → Among n (names_in store) → ⊥
   only n (inl e) a = new (subst (λ (m : List ℕ). Among m (names_in store)) e a)
@@ -157,7 +157,7 @@ module _ (t : Theory) (h : WellFormed t) (d : Diagram) (u : Subroutine) (lacks :
           ∙ declared_well sorted.0 alike.0;
       small = ap (λ (y : Option Term). list_any is_large (listed_term y)) held ∙ tiny;
     };
-    put_is = ap (λ (y : Option Term). store ++ entries (Some o.0 ∷ []) (listed_term y)) held;
+    put_is = ap (λ (y : Option Term). store ++ entries_held (Some o.0 ∷ []) (listed_term y)) held;
   }
 
   -- from a name, an array
@@ -183,17 +183,17 @@ module _ (t : Theory) (h : WellFormed t) (d : Diagram) (u : Subroutine) (lacks :
               ∙ declared_well sorted.0 alike.0;
           small = ap (λ (q : Option Routine). list_any is_large (call_terms t store q args)) none ∙ ap (λ (y : Option Term). list_any is_large (listed_term y)) held ∙ tiny;
         };
-        put_is = ap (λ (q : Option Routine). store ++ entries (map name_in (set_by_call q args)) (call_terms t store q args)) none ∙ ap (λ (y : Option Term). store ++ entries (Some o.0 ∷ []) (listed_term y)) held;
+        put_is = ap (λ (q : Option Routine). store ++ entries_held (map name_in (set_by_call q args)) (call_terms t store q args)) none ∙ ap (λ (y : Option Term). store ++ entries_held (Some o.0 ∷ []) (listed_term y)) held;
       }
 
   -- from a literal
   abbrev placed : Operand → Option SymId
   placed from = literal_for t (output_sort d o.0) from
 
-  literal-placed : (from : Operand) (f : SymId) → literal_at t o.1 from ≡ Some f → placed from ≡ Some f
+  literal-placed : (from : Operand) (f : SymId) → literal_written t o.1 from ≡ Some f → placed from ≡ Some f
   literal-placed from f e = ap (λ (p : Option SortId). literal_for t p from) c.place ∙ e
 
-  literal-assign : (v : LitValue) (f : SymId) → x ≡ App f [] → result_sort t.sig f ≡ Some sorted.0 → literal_at t o.1 (written_value v) ≡ Some f → Puts t d u store (Assign o.0 (written_value v)) ((o.0, x) ∷ [])
+  literal-assign : (v : LitValue) (f : SymId) → x ≡ App f [] → result_sort t.sig f ≡ Some sorted.0 → literal_written t o.1 (written_value v) ≡ Some f → Puts t d u store (Assign o.0 (written_value v)) ((o.0, x) ∷ [])
   literal-assign (value.Int z) f is given e = record {
     passes = record {
       known = refl;
@@ -206,7 +206,7 @@ module _ (t : Theory) (h : WellFormed t) (d : Diagram) (u : Subroutine) (lacks :
           ∙ declared_well sorted.0 alike.0;
       small = ap (λ (q : Option SymId). list_any is_large (listed_term (literal_term_of q))) (literal-placed (operand.Int z) f e) ∙ ap (λ (y : Term). list_any is_large (y ∷ [])) (sym is) ∙ tiny;
     };
-    put_is = ap (λ (q : Option SymId). store ++ entries (Some o.0 ∷ []) (listed_term (literal_term_of q))) (literal-placed (operand.Int z) f e) ∙ ap (λ (y : Term). store ++ (o.0, y) ∷ []) (sym is);
+    put_is = ap (λ (q : Option SymId). store ++ entries_held (Some o.0 ∷ []) (listed_term (literal_term_of q))) (literal-placed (operand.Int z) f e) ∙ ap (λ (y : Term). store ++ (o.0, y) ∷ []) (sym is);
   }
   literal-assign (value.Text z) f is given e = record {
     passes = record {
@@ -220,7 +220,7 @@ module _ (t : Theory) (h : WellFormed t) (d : Diagram) (u : Subroutine) (lacks :
           ∙ declared_well sorted.0 alike.0;
       small = ap (λ (q : Option SymId). list_any is_large (listed_term (literal_term_of q))) (literal-placed (operand.Text z) f e) ∙ ap (λ (y : Term). list_any is_large (y ∷ [])) (sym is) ∙ tiny;
     };
-    put_is = ap (λ (q : Option SymId). store ++ entries (Some o.0 ∷ []) (listed_term (literal_term_of q))) (literal-placed (operand.Text z) f e) ∙ ap (λ (y : Term). store ++ (o.0, y) ∷ []) (sym is);
+    put_is = ap (λ (q : Option SymId). store ++ entries_held (Some o.0 ∷ []) (listed_term (literal_term_of q))) (literal-placed (operand.Text z) f e) ∙ ap (λ (y : Term). store ++ (o.0, y) ∷ []) (sym is);
   }
 
   abbrev copy_by : Option Rep → Operand → Statement

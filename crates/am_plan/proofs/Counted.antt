@@ -13,10 +13,10 @@ use Rattle.am_clause.specs.Distinct.{distinct}
 use Rattle.am_theory.specs.declared.theory.Theory.{Theory}
 use Rattle.am_theory.specs.Facts.{WellFormed, IsRoutine}
 use Rattle.am_diagram.specs.declared.diagram.Diagram.{Diagram}
-use Rattle.am_diagram.specs.Listed.{sorts_in}
+use Rattle.am_diagram.specs.Listed.{entry_sorts}
 use Rattle.am_plan.specs.declared.call.Callee.{Callee}
 use Rattle.am_plan.specs.declared.call.Callee.TheVariants as callee
-use Rattle.am_plan.specs.Calls.{PlannedCall, under_step, terms_below, completed, call_of, call_with, listed, same_call, asked, calls, outputs_at, value_at, made_by, made}
+use Rattle.am_plan.specs.Calls.{PlannedCall, under_step, terms_below, completed, call_of, call_with, listed_option, same_call, asks_for, calls, outputs_made, value_made, made_by, made}
 use Rattle.am_plan.specs.Answers.{AllServe}
 use Rattle.am_plan.proofs.Standing.{all-index}
 use Rattle.am_plan.proofs.Running.{CalleeFits}
@@ -44,7 +44,7 @@ asks-few : (t : Theory) (xs : List Term) → length (asks t xs) ≤ length xs
 asks-few t [] = omega arith
 asks-few t (x ∷ xs) = by_call (call_of t x) (asks-few t xs)
   where
-    by_call : (o : Option PlannedCall) → length (asks t xs) ≤ length xs → length (listed o ++ asks t xs) ≤ length (x ∷ xs)
+    by_call : (o : Option PlannedCall) → length (asks t xs) ≤ length xs → length (listed_option o ++ asks t xs) ≤ length (x ∷ xs)
     by_call None h = omega arith
     by_call (Some c) h = omega arith
 
@@ -64,13 +64,13 @@ distinct-few {A = A} same (x ∷ xs) = both (length (filter (λ y. not (same x y
     both a b c e f = omega arith
 
 module _ (t : Theory) (h : WellFormed t) (d : Diagram) where
-  makes-few : (args : List Term) (c : Callee) → CalleeFits t (sorts_in d.inputs) args c → length (made_by t (call_with args c)) ≤ 12
+  makes-few : (args : List Term) (c : Callee) → CalleeFits t (entry_sorts d.inputs) args c → length (made_by t (call_with args c)) ≤ 12
   makes-few args (callee.Routine k) fit =
-      subst (λ (n : ℕ). n ≤ 12) (sym (ap (λ (ys : List Term). length ys) (ap (outputs_at args) fit.1) ∙ length-map fit.0.outputs (λ (f : SymId). App f args)))
+      subst (λ (n : ℕ). n ≤ 12) (sym (ap (λ (ys : List Term). length ys) (ap (outputs_made args) fit.1) ∙ length-map fit.0.outputs (λ (f : SymId). App f args)))
       (all-index (IsRoutine t) t.routines k fit.0 h.routines fit.1).few_outputs
-  makes-few args (callee.Function k) fit = subst (λ (n : ℕ). n ≤ 12) (sym (ap (λ (ys : List Term). length ys) (ap (value_at args) fit.1))) (omega arith)
+  makes-few args (callee.Function k) fit = subst (λ (n : ℕ). n ≤ 12) (sym (ap (λ (ys : List Term). length ys) (ap (value_made args) fit.1))) (omega arith)
 
-  all-few : (cs : List PlannedCall) → AllByRecursion (λ (c : PlannedCall). CalleeFits t (sorts_in d.inputs) c.args c.callee) cs → length (flat_map (made_by t) cs) ≤ 12 * length cs
+  all-few : (cs : List PlannedCall) → AllByRecursion (λ (c : PlannedCall). CalleeFits t (entry_sorts d.inputs) c.args c.callee) cs → length (flat_map (made_by t) cs) ≤ 12 * length cs
   all-few [] f = omega arith
   all-few (c ∷ cs) f = joined (length (made_by t c)) (length (flat_map (made_by t) cs)) (length cs) (length (made_by t c ++ flat_map (made_by t) cs)) (length-append (made_by t c) (flat_map (made_by t) cs)) (makes-few c.args c.callee f.0) (all-few cs f.1)
     where
@@ -87,11 +87,11 @@ module _ (t : Theory) (h : WellFormed t) (d : Diagram) where
       joined a b n w e f g = omega arith
 
   -- 18 outputs of 400 nodes ask for 7,200 calls, which make 86,400 terms
-  pub made-few : (answer : List Term) → length d.outputs ≤ 18 → AllServe t d d.outputs answer → AllByRecursion (λ (c : PlannedCall). CalleeFits t (sorts_in d.inputs) c.args c.callee) (calls t answer) → length (made t answer) + 1 < 100000
+  pub made-few : (answer : List Term) → length d.outputs ≤ 18 → AllServe t d d.outputs answer → AllByRecursion (λ (c : PlannedCall). CalleeFits t (entry_sorts d.inputs) c.args c.callee) (calls t answer) → length (made t answer) + 1 < 100000
   unfolding calls
   made-few answer few serve fit =
-      together (length (flat_map (made_by t) (distinct same_call (asked t answer)))) (length (distinct same_call (asked t answer))) (length (asked t answer)) (length (flat_map completed answer)) (sum_by nodes answer) (length d.outputs)
-      (all-few (distinct same_call (asked t answer)) fit) (distinct-few same_call (asked t answer)) (asks-few t (flat_map completed answer)) (completed-counted answer) (serve-few d.outputs answer serve) few
+      together (length (flat_map (made_by t) (distinct same_call (asks_for t answer)))) (length (distinct same_call (asks_for t answer))) (length (asks_for t answer)) (length (flat_map completed answer)) (sum_by nodes answer) (length d.outputs)
+      (all-few (distinct same_call (asks_for t answer)) fit) (distinct-few same_call (asks_for t answer)) (asks-few t (flat_map completed answer)) (completed-counted answer) (serve-few d.outputs answer serve) few
     where
       together : (m c a f n o : ℕ) → m ≤ 12 * c → c ≤ a → a ≤ f → f ≡ n → n ≤ 400 * o → o ≤ 18 → m + 1 < 100000
       together m c a f n o e1 e2 e3 e4 e5 e6 = omega arith

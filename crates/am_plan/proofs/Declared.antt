@@ -20,7 +20,7 @@ use Rattle.am_exec.proofs.Held.{eq_is, eq_same}
 use Rattle.am_fortran.specs.declared.statement.Decl.{Decl}
 use Rattle.am_theory.specs.declared.theory.FortranFunction.{FortranFunction}
 use Rattle.am_theory.specs.declared.theory.Theory.{Theory}
-use Rattle.am_plan.specs.Plan.{head_of, function_at, same_function, functions_used, function_decl}
+use Rattle.am_plan.specs.Plan.{head_symbol, function_at, same_function, functions_used, called_function_decl}
 use Rattle.am_plan.specs.Calls.{PlannedCall}
 
 -- ---- lists without repetitions under a likeness
@@ -96,29 +96,29 @@ used-more t cs i d h =
     ∙ with_new-append same_function [] (flat_map one (take i cs)) (one (get_or cs i d))
 
 -- ---- their declarations
-named-among : (t : Theory) (n : List ℕ) (fs : List FortranFunction) → is_among n (map (λ (e : Decl). e.name) (map (function_decl t) fs)) ≡ list_any (λ (g : FortranFunction). bytes_eq n g.name) fs
+named-among : (t : Theory) (n : List ℕ) (fs : List FortranFunction) → is_among n (map (λ (e : Decl). e.name) (map (called_function_decl t) fs)) ≡ list_any (λ (g : FortranFunction). bytes_eq n g.name) fs
 named-among t n [] = refl
 named-among t n (f ∷ fs) = ap (λ b. bytes_eq n f.name || b) (named-among t n fs)
 
 -- one more function
-pub declared-one : (t : Theory) (fs : List FortranFunction) (f : FortranFunction) → (if is_among f.name (map (λ (e : Decl). e.name) (map (function_decl t) fs)) then map (function_decl t) fs else map (function_decl t) fs ++ function_decl t f ∷ []) ≡ map (function_decl t) (with_new same_function fs (f ∷ []))
+pub declared-one : (t : Theory) (fs : List FortranFunction) (f : FortranFunction) → (if is_among f.name (map (λ (e : Decl). e.name) (map (called_function_decl t) fs)) then map (called_function_decl t) fs else map (called_function_decl t) fs ++ called_function_decl t f ∷ []) ≡ map (called_function_decl t) (with_new same_function fs (f ∷ []))
 declared-one t fs f = by_test (among same_function f fs) refl
   where
-    by_test : (b : Bool) → among same_function f fs ≡ b → (if is_among f.name (map (λ (e : Decl). e.name) (map (function_decl t) fs)) then map (function_decl t) fs else map (function_decl t) fs ++ function_decl t f ∷ []) ≡ map (function_decl t) (with_new same_function fs (f ∷ []))
-    by_test true e = rw (named-among t f.name fs, e) (ap (map (function_decl t)) (sym (with_new-old same_function fs f e)))
-    by_test false e = rw (named-among t f.name fs, e) (sym (map-append (function_decl t) fs (f ∷ [])) ∙ ap (map (function_decl t)) (sym (with_new-new same_function fs f e)))
+    by_test : (b : Bool) → among same_function f fs ≡ b → (if is_among f.name (map (λ (e : Decl). e.name) (map (called_function_decl t) fs)) then map (called_function_decl t) fs else map (called_function_decl t) fs ++ called_function_decl t f ∷ []) ≡ map (called_function_decl t) (with_new same_function fs (f ∷ []))
+    by_test true e = rw (named-among t f.name fs, e) (ap (map (called_function_decl t)) (sym (with_new-old same_function fs f e)))
+    by_test false e = rw (named-among t f.name fs, e) (sym (map-append (called_function_decl t) fs (f ∷ [])) ∙ ap (map (called_function_decl t)) (sym (with_new-new same_function fs f e)))
 
 pub declared-none : (t : Theory) (fs : List FortranFunction) → with_new same_function fs [] ≡ fs
 declared-none t = with_new-none same_function
 
 -- ---- the declaration of a local
-pub head-Var : (n : ℕ) (s : SortId) → head_of (out-Term (Var n s)) ≡ None
-head-Var n s = ap head_of (outs-Var n s)
+pub head-Var : (n : ℕ) (s : SortId) → head_symbol (out-Term (Var n s)) ≡ None
+head-Var n s = ap head_symbol (outs-Var n s)
 
-pub head-In : (k : ℕ) → head_of (out-Term (In k)) ≡ None
-head-In k = ap head_of (outs-In k)
+pub head-In : (k : ℕ) → head_symbol (out-Term (In k)) ≡ None
+head-In k = ap head_symbol (outs-In k)
 
-pub head-App : (f : SymId) (args : List Term) → head_of (out-Term (App f args)) ≡ Some f
-head-App f args = ap head_of (outs-App f args)
+pub head-App : (f : SymId) (args : List Term) → head_symbol (out-Term (App f args)) ≡ Some f
+head-App f args = ap head_symbol (outs-App f args)
 
 pub ruleset declaring = (common_steps, nat_tests, the_lemmas, head-Var, head-In, head-App, map-append, used-all, used-more, declared-one, declared-none)

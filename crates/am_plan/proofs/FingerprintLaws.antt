@@ -10,7 +10,7 @@ use Rattle.am_term.proofs.Alike.{same_term-sound}
 use Rattle.am_term.proofs.Tests.{fails}
 use Rattle.am_clause.specs.Distinct.{among}
 use Rattle.am_plan.specs.Calls.{PlannedCall, same_call}
-use Rattle.am_plan.specs.Names.{Named, name_of, output_for}
+use Rattle.am_plan.specs.Names.{Named, name_of_term, output_for}
 use Rattle.am_plan.specs.Fingerprints.{fingerprint, call_fingerprint, place_from}
 use Rattle.am_plan.proofs.Asking.{same_call-sound}
 
@@ -75,14 +75,14 @@ seen-behind c = behind call_fingerprint (call_fingerprint c) (λ i es. among sam
 abbrev pub entry_fingerprint : Named → ℕ
 entry_fingerprint e = fingerprint e.1
 
-names-apart : (x : Term) (e : Named) (es : List Named) → (fingerprint x == entry_fingerprint e) ≡ false → name_of (e ∷ es) x ≡ name_of es x
-names-apart x e es h = ap (λ b. if b then e.0 else name_of es x) (fails (same_term e.1 x) (λ s. never (fingerprint x == fingerprint e.1) (number-same (fingerprint x) (fingerprint e.1) (ap fingerprint (sym (same_term-sound e.1 x s)))) h))
+names-apart : (x : Term) (e : Named) (es : List Named) → (fingerprint x == entry_fingerprint e) ≡ false → name_of_term (e ∷ es) x ≡ name_of_term es x
+names-apart x e es h = ap (λ b. if b then e.0 else name_of_term es x) (fails (same_term e.1 x) (λ s. never (fingerprint x == fingerprint e.1) (number-same (fingerprint x) (fingerprint e.1) (ap fingerprint (sym (same_term-sound e.1 x s)))) h))
 
-pub unnamed : (x : Term) (es : List Named) → place_from (fingerprint x) 0 (map entry_fingerprint es) ≡ None → name_of es x ≡ []
-unnamed x = absent entry_fingerprint (fingerprint x) (λ i es. name_of es x) (λ i e es. names-apart x e es) 0 0
+pub unnamed : (x : Term) (es : List Named) → place_from (fingerprint x) 0 (map entry_fingerprint es) ≡ None → name_of_term es x ≡ []
+unnamed x = absent entry_fingerprint (fingerprint x) (λ i es. name_of_term es x) (λ i e es. names-apart x e es) 0 0
 
-pub named-behind : (x : Term) (es : List Named) (i : ℕ) → place_from (fingerprint x) 0 (map entry_fingerprint es) ≡ Some i → name_of (drop i es) x ≡ name_of es x
-named-behind x = behind entry_fingerprint (fingerprint x) (λ i es. name_of es x) (λ i e es. names-apart x e es)
+pub named-behind : (x : Term) (es : List Named) (i : ℕ) → place_from (fingerprint x) 0 (map entry_fingerprint es) ≡ Some i → name_of_term (drop i es) x ≡ name_of_term es x
+named-behind x = behind entry_fingerprint (fingerprint x) (λ i es. name_of_term es x) (λ i e es. names-apart x e es)
 
 -- ---- outputs for terms
 abbrev Outputs : Type 0

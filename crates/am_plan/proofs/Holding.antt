@@ -7,7 +7,7 @@ use Rattle.am_term.specs.declared.term.Term.{Term}
 use Rattle.am_term.specs.declared.term.Term.TheVariants.{In}
 use Rattle.am_term.specs.NameLists.{is_among, are_distinct}
 use Rattle.am_term.proofs.Tests.{and_both, not_false, fails, or_cases}
-use Rattle.am_exec.specs.States.{Store, term_held, is_held, inputs_from, entries}
+use Rattle.am_exec.specs.States.{Store, term_held, is_held, inputs_held_from, entries_held}
 use Rattle.am_exec.proofs.Held.{eq_is, eq_same, or_both}
 use Rattle.am_plan.proofs.Membership.{Among, Different, among-map}
 
@@ -61,12 +61,12 @@ none-held store [] h = refl
 none-held store (n ∷ ns) h = or_both (is_held store n) (list_any (is_held store) ns) (ap is_some (held-none store n (λ a. h n (inl refl) a))) (none-held store ns (λ m a. h m (inr a)))
 
 -- the pairs of names and terms
-pub entries-zip : (name : Term → List ℕ) (xs : List Term) → entries (map (λ (x : Term). Some (name x)) xs) xs ≡ map (λ (x : Term). (name x, x)) xs
+pub entries-zip : (name : Term → List ℕ) (xs : List Term) → entries_held (map (λ (x : Term). Some (name x)) xs) xs ≡ map (λ (x : Term). (name x, x)) xs
 entries-zip name [] = refl
 entries-zip name (x ∷ xs) = ap (λ (es : Store). (name x, x) ∷ es) (entries-zip name xs)
 
 -- the inputs
-pub inputs-among : (ds : List (List ℕ × SortId)) (k i j : ℕ) (e : List ℕ × SortId) → slice_get ds i ≡ Some e → j ≡ k + i → Among (e.0, In j) (inputs_from k ds)
+pub inputs-among : (ds : List (List ℕ × SortId)) (k i j : ℕ) (e : List ℕ × SortId) → slice_get ds i ≡ Some e → j ≡ k + i → Among (e.0, In j) (inputs_held_from k ds)
 inputs-among [] k i j e at is = absurd cc
 inputs-among (d ∷ ds) k zero j e at is =
     let same : d ≡ e = cc in
@@ -74,6 +74,6 @@ inputs-among (d ∷ ds) k zero j e at is =
     inl (ap (λ (q : List ℕ × SortId). let p : List ℕ × Term = (q.0, In j) in p) (sym same) ∙ ap (λ (i : ℕ). let p : List ℕ × Term = (d.0, In i) in p) here)
 inputs-among (d ∷ ds) k (suc i) j e at is = inr (inputs-among ds (suc k) i j e at (omega arith))
 
-pub inputs-names : (k : ℕ) (ds : List (List ℕ × SortId)) → names_in (inputs_from k ds) ≡ map (λ (e : List ℕ × SortId). e.0) ds
+pub inputs-names : (k : ℕ) (ds : List (List ℕ × SortId)) → names_in (inputs_held_from k ds) ≡ map (λ (e : List ℕ × SortId). e.0) ds
 inputs-names k [] = refl
 inputs-names k (d ∷ ds) = ap (λ (ns : List (List ℕ)). d.0 ∷ ns) (inputs-names (suc k) ds)

@@ -20,12 +20,12 @@ use Rattle.am_theory.specs.declared.theory.Routine.{Routine}
 use Rattle.am_theory.specs.declared.theory.FortranFunction.{FortranFunction}
 use Rattle.am_theory.specs.declared.theory.LiteralDecl.{LiteralDecl}
 use Rattle.am_theory.specs.declared.theory.Theory.{Theory}
-use Rattle.am_theory.specs.Lookups.{literal_of, rep_of, copy_of, copy_names, listed_name, known, result_sort}
+use Rattle.am_theory.specs.Lookups.{literal_declared, rep_of, copy_of, copy_names, listed_name, known, result_sort}
 use Rattle.am_theory.specs.Faults.{is_free_name}
 use Rattle.am_theory.specs.Facts.{WellFormed, IsSymbol, IsRoutine, IsFunction, IsLiteral, Stands, is_in_range, is_array, is_represented, copies_when_array}
 use Rattle.am_diagram.specs.declared.diagram.Diagram.{Diagram}
 use Rattle.am_diagram.specs.Facts.{WellFormed as DiagramWell}
-use Rattle.am_diagram.specs.Listed.{names_of, sorts_in}
+use Rattle.am_diagram.specs.Listed.{entry_names, entry_sorts}
 use Rattle.am_fortran.specs.declared.statement.Decl.{Decl}
 use Rattle.am_fortran.specs.declared.statement.Operand.{Operand}
 use Rattle.am_fortran.specs.declared.statement.Operand.TheVariants as operand
@@ -33,12 +33,13 @@ use Rattle.am_fortran.specs.declared.statement.Statement.{Statement}
 use Rattle.am_fortran.specs.declared.statement.Statement.TheVariants.{Call, Assign, Apply}
 use Rattle.am_fortran.specs.Well.{is_between, is_type, is_declaration, is_operand, is_statement}
 use Rattle.am_exec.specs.Types.{dummy_type}
+use Rattle.am_exec.specs.Lawful.{dummies_of}
 use Rattle.am_plan.specs.declared.call.Callee.{Callee}
 use Rattle.am_plan.specs.declared.call.Callee.TheVariants as callee
 use Rattle.am_plan.specs.Answers.{AllServe, IsAnswerFor}
-use Rattle.am_plan.specs.Calls.{PlannedCall, completed, listed, calls, outputs_at, value_at, made_at, made_by, made}
-use Rattle.am_plan.specs.Names.{Named, named, locals, name_of}
-use Rattle.am_plan.specs.Plan.{literal_or, operand_for, routine_call, first_name, function_call, statement_at, statement_of, is_array_rep, copy_name, copy_to, is_set, copies, rep_or_double, dummy_decl, head_of, rep_of_sort, rep_of_head, local_decl, function_at, same_function, functions_used, function_decl, arguments}
+use Rattle.am_plan.specs.Calls.{PlannedCall, completed, listed_option, calls, outputs_made, value_made, made_at, made_by, made}
+use Rattle.am_plan.specs.Names.{Named, named_terms, locals, name_of_term}
+use Rattle.am_plan.specs.Plan.{literal_or, operand_for, routine_call, first_name, function_call, statement_at, statement_of, is_array_rep, copy_name, copy_to, is_set, copies, rep_or_double, dummy_decl, head_symbol, rep_of_sort, rep_of_head, local_decl, function_at, same_function, functions_used, called_function_decl}
 use Rattle.am_plan.proofs.Numbered.{named-are}
 use Rattle.am_plan.proofs.Membership.{Among, among-flat, all-among}
 use Rattle.am_plan.proofs.Operands.{operand-In, operand-App}
@@ -76,15 +77,15 @@ module _ (t : Theory) (h : WellFormed t) where
       by_sort (Some s) = sort-in-range s
 
   -- ---- declarations
-  dummies-declared : (es : List (List ℕ × SortId)) → list_all is_fortran_name (names_of es) ≡ true → list_all is_declaration (map (dummy_decl t) es) ≡ true
+  dummies-declared : (es : List (List ℕ × SortId)) → list_all is_fortran_name (entry_names es) ≡ true → list_all is_declaration (map (dummy_decl t) es) ≡ true
   dummies-declared [] e = refl
   dummies-declared (x ∷ xs) e =
       and_both (is_declaration (dummy_decl t x)) (list_all is_declaration (map (dummy_decl t) xs))
-      (and_both (is_type (dummy_type (rep_or_double (rep_of t x.1)))) (is_fortran_name x.0) (dummy-typed (rep_or_double (rep_of t x.1)) (sort-in-range x.1)) (and_left (is_fortran_name x.0) (list_all is_fortran_name (names_of xs)) e))
-      (dummies-declared xs (and_right (is_fortran_name x.0) (list_all is_fortran_name (names_of xs)) e))
+      (and_both (is_type (dummy_type (rep_or_double (rep_of t x.1)))) (is_fortran_name x.0) (dummy-typed (rep_or_double (rep_of t x.1)) (sort-in-range x.1)) (and_left (is_fortran_name x.0) (list_all is_fortran_name (entry_names xs)) e))
+      (dummies-declared xs (and_right (is_fortran_name x.0) (list_all is_fortran_name (entry_names xs)) e))
 
   local-declared : (e : Named) → is_fortran_name e.0 ≡ true → is_declaration (local_decl t e) ≡ true
-  local-declared e k = and_both (is_type (local_decl t e).ty) (is_fortran_name e.0) (local-typed (rep_of_head t (head_of (out-Term e.1))) (head-in-range (head_of (out-Term e.1)))) k
+  local-declared e k = and_both (is_type (local_decl t e).ty) (is_fortran_name e.0) (local-typed (rep_of_head t (head_symbol (out-Term e.1))) (head-in-range (head_symbol (out-Term e.1)))) k
 
   locals-declared : (es : List Named) → list_all (λ (e : Named). is_fortran_name e.0) es ≡ true → list_all is_declaration (map (local_decl t) es) ≡ true
   locals-declared es k = all-map is_declaration (local_decl t) es (λ e m. local-declared e (all-member (λ (x : Named). is_fortran_name x.0) e es k m))
@@ -96,7 +97,7 @@ module _ (t : Theory) (h : WellFormed t) where
   functions-fortran cs = all-distinct same_function (λ (f : FortranFunction). is_fortran_name f.name) (flat_map (λ (c : PlannedCall). function_at t c.callee) cs)
       (all-flat-map (λ (f : FortranFunction). is_fortran_name f.name) (λ (c : PlannedCall). function_at t c.callee) cs (λ c m. by_callee c.callee))
     where
-      by_place : (k : ℕ) (o : Option FortranFunction) → slice_get t.functions k ≡ o → list_all (λ (f : FortranFunction). is_fortran_name f.name) (listed o) ≡ true
+      by_place : (k : ℕ) (o : Option FortranFunction) → slice_get t.functions k ≡ o → list_all (λ (f : FortranFunction). is_fortran_name f.name) (listed_option o) ≡ true
       by_place k None at = refl
       by_place k (Some f) at = and_both (is_fortran_name f.name) true (function-fortran k f at) refl
 
@@ -104,11 +105,11 @@ module _ (t : Theory) (h : WellFormed t) where
       by_callee (callee.Routine k) = refl
       by_callee (callee.Function k) = by_place k (slice_get t.functions k) refl
 
-  function-declared : (f : FortranFunction) → is_fortran_name f.name ≡ true → is_declaration (function_decl t f) ≡ true
-  function-declared f k = and_both (is_type (function_decl t f).ty) (is_fortran_name f.name) (local-typed (rep_of_head t (Some f.symbol)) (head-in-range (Some f.symbol))) k
+  function-declared : (f : FortranFunction) → is_fortran_name f.name ≡ true → is_declaration (called_function_decl t f) ≡ true
+  function-declared f k = and_both (is_type (called_function_decl t f).ty) (is_fortran_name f.name) (local-typed (rep_of_head t (Some f.symbol)) (head-in-range (Some f.symbol))) k
 
-  functions-declared : (cs : List PlannedCall) → list_all is_declaration (map (function_decl t) (functions_used t cs)) ≡ true
-  functions-declared cs = all-map is_declaration (function_decl t) (functions_used t cs) (λ f m. function-declared f (all-member (λ (x : FortranFunction). is_fortran_name x.name) f (functions_used t cs) (functions-fortran cs) m))
+  functions-declared : (cs : List PlannedCall) → list_all is_declaration (map (called_function_decl t) (functions_used t cs)) ≡ true
+  functions-declared cs = all-map is_declaration (called_function_decl t) (functions_used t cs) (λ f m. function-declared f (all-member (λ (x : FortranFunction). is_fortran_name x.name) f (functions_used t cs) (functions-fortran cs) m))
 
   -- ---- copies
   copy-fortran : (s : SortId) (n : List ℕ) → copy_of t s ≡ Some n → is_fortran_name n ≡ true
@@ -143,23 +144,23 @@ module _ (t : Theory) (h : WellFormed t) where
           ∙ and_both (is_fortran_name o.0) (is_operand from) n e
 
   module _ (d : Diagram) (names : List Named) where
-    copies-well : (os : List (List ℕ × SortId)) (xs : List Term) → list_all is_fortran_name (names_of os) ≡ true → ((x : Term) → Among x xs → is_operand (operand_for t d names x) ≡ true) → list_all is_statement (copies t d names os xs) ≡ true
+    copies-well : (os : List (List ℕ × SortId)) (xs : List Term) → list_all is_fortran_name (entry_names os) ≡ true → ((x : Term) → Among x xs → is_operand (operand_for t d names x) ≡ true) → list_all is_statement (copies t d names os xs) ≡ true
     copies-well [] xs e k = refl
     copies-well (o ∷ os) [] e k = refl
     copies-well (o ∷ os) (x ∷ xs) e k =
         all-append is_statement (if is_set names o.0 then [] else copy_to t o (operand_for t d names x) ∷ []) (copies t d names os xs)
         (by_test (is_set names o.0))
-        (copies-well os xs (and_right (is_fortran_name o.0) (list_all is_fortran_name (names_of os)) e) (λ y m. k y (inr m)))
+        (copies-well os xs (and_right (is_fortran_name o.0) (list_all is_fortran_name (entry_names os)) e) (λ y m. k y (inr m)))
       where
         by_test : (b : Bool) → list_all is_statement (if b then [] else copy_to t o (operand_for t d names x) ∷ []) ≡ true
         by_test true = refl
-        by_test false = and_both (is_statement (copy_to t o (operand_for t d names x))) true (copy-well o (operand_for t d names x) (and_left (is_fortran_name o.0) (list_all is_fortran_name (names_of os)) e) (k x (inl refl))) refl
+        by_test false = and_both (is_statement (copy_to t o (operand_for t d names x))) true (copy-well o (operand_for t d names x) (and_left (is_fortran_name o.0) (list_all is_fortran_name (entry_names os)) e) (k x (inl refl))) refl
 
 -- the terms of an answer are good
-serves-good : (t : Theory) (d : Diagram) (os : List (List ℕ × SortId)) (xs : List Term) → AllServe t d os xs → AllByRecursion (Good t (sorts_in d.inputs)) xs
+serves-good : (t : Theory) (d : Diagram) (os : List (List ℕ × SortId)) (xs : List Term) → AllServe t d os xs → AllByRecursion (Good t (entry_sorts d.inputs)) xs
 serves-good t d os [] a = tt
 serves-good t d [] (x ∷ xs) a = absurd a
-serves-good t d (o ∷ os) (x ∷ xs) a = (record { sorted = placed (sort_of t.sig (sorts_in d.inputs) x) a.0.sorted; ready = a.0.ready }, serves-good t d os xs a.1)
+serves-good t d (o ∷ os) (x ∷ xs) a = (record { sorted = placed (sort_of t.sig (entry_sorts d.inputs) x) a.0.sorted; ready = a.0.ready }, serves-good t d os xs a.1)
   where
     placed : (s : Option SortId) → fits_place t.sig s o.1 ≡ true → is_some s ≡ true
     placed None e = absurd (true≢false (sym e))
@@ -176,25 +177,25 @@ module _ (t : Theory) (h : WellFormed t) (d : Diagram) (g : DiagramWell t d) (an
   all = flat_map completed answer
 
   abbrev ins : List SortId
-  ins = sorts_in d.inputs
+  ins = entry_sorts d.inputs
 
   abbrev names : List Named
-  names = named t d answer
+  names = named_terms t d answer
 
   answer-good : AllByRecursion (Good t ins) answer
   answer-good = serves-good t d d.outputs answer a
 
-  inputs-fortran : list_all is_fortran_name (names_of d.inputs) ≡ true
-  inputs-fortran = free-all t (names_of d.inputs) g.inputs_named
+  inputs-fortran : list_all is_fortran_name (entry_names d.inputs) ≡ true
+  inputs-fortran = free-all t (entry_names d.inputs) g.inputs_named
 
-  outputs-fortran : list_all is_fortran_name (names_of d.outputs) ≡ true
-  outputs-fortran = free-all t (names_of d.outputs) g.outputs_named
+  outputs-fortran : list_all is_fortran_name (entry_names d.outputs) ≡ true
+  outputs-fortran = free-all t (entry_names d.outputs) g.outputs_named
 
-  made-fortran : (x : Term) → Among x (made t answer) → is_fortran_name (name_of names x) ≡ true
-  made-fortran x m = subst (λ (es : List Named). is_fortran_name (name_of es x) ≡ true) (sym (named-are t d answer)) (name-fortran d.outputs answer outputs-fortran 1 (made t answer) x m)
+  made-fortran : (x : Term) → Among x (made t answer) → is_fortran_name (name_of_term names x) ≡ true
+  made-fortran x m = subst (λ (es : List Named). is_fortran_name (name_of_term es x) ≡ true) (sym (named-are t d answer)) (name-fortran d.outputs answer outputs-fortran 1 (made t answer) x m)
 
   -- ---- operands
-  literal-well : (f : SymId) (l : LiteralDecl) → literal_of t f ≡ Some l → is_operand (literal_or (operand.Name []) (Some l)) ≡ true
+  literal-well : (f : SymId) (l : LiteralDecl) → literal_declared t f ≡ Some l → is_operand (literal_or (operand.Name []) (Some l)) ≡ true
   literal-well f l e =
       let k = all-among (IsLiteral t) l t.literals h.literals (find-among (λ (x : LiteralDecl). x.symbol.0 == f.0) t.literals l e) in
       value-well l.value (rep_of t k.stands.sort) k.suited k.valued
@@ -208,12 +209,12 @@ module _ (t : Theory) (h : WellFormed t) (d : Diagram) (g : DiagramWell t d) (an
       in_well : (k : ℕ) → Among (In k) all → Good t ins (In k) → is_operand (operand_for t d names (In k)) ≡ true
       in_well k m e = ap is_operand (operand-In t d names k) ∙ input-fortran d.inputs k inputs-fortran (ap is_some (sym (sort_of-In t.sig ins k)) ∙ e.sorted)
 
-      by_literal : (f : SymId) (args : List Term) → (o : Option LiteralDecl) → literal_of t f ≡ o → Among (App f args) all → Good t ins (App f args) → is_operand (literal_or (operand.Name (name_of names (App f args))) o) ≡ true
+      by_literal : (f : SymId) (args : List Term) → (o : Option LiteralDecl) → literal_declared t f ≡ o → Among (App f args) all → Good t ins (App f args) → is_operand (literal_or (operand.Name (name_of_term names (App f args))) o) ≡ true
       by_literal f args None e m k = made-fortran (App f args) (made-there t ins answer f args h m k e)
       by_literal f args (Some l) e m k = literal-well f l e
 
       app_well : (f : SymId) (args : List Term) → Among (App f args) all → Good t ins (App f args) → is_operand (operand_for t d names (App f args)) ≡ true
-      app_well f args m k = ap is_operand (operand-App t d names f args) ∙ by_literal f args (literal_of t f) refl m k
+      app_well f args m k = ap is_operand (operand-App t d names f args) ∙ by_literal f args (literal_declared t f) refl m k
 
   answer-operand : (x : Term) → Among x answer → is_operand (operand_for t d names x) ≡ true
   answer-operand x m = operand-well x (self-among x answer m) (all-among (Good t ins) x answer answer-good m)
@@ -236,8 +237,8 @@ module _ (t : Theory) (h : WellFormed t) (d : Diagram) (g : DiagramWell t d) (an
     args-well = all-map is_operand (operand_for t d names) c.args
         (λ x n. operand-well x (args-among answer head x is_call.there (subst (λ (ys : List Term). Among x ys) (sym (args_of-App is_call.symbol c.args)) n)) (all-among (Good t ins) x c.args at.good n))
 
-    outputs-well : list_all is_operand (map (λ (x : Term). operand.Name (name_of names x)) (made_by t c)) ≡ true
-    outputs-well = all-map is_operand (λ (x : Term). operand.Name (name_of names x)) (made_by t c) (λ x n. made-fortran x (among-flat (made_by t) c x (calls t answer) m n))
+    outputs-well : list_all is_operand (map (λ (x : Term). operand.Name (name_of_term names x)) (made_by t c)) ≡ true
+    outputs-well = all-map is_operand (λ (x : Term). operand.Name (name_of_term names x)) (made_by t c) (λ x n. made-fortran x (among-flat (made_by t) c x (calls t answer) m n))
 
     args-counted : length c.args ≡ length at.symbol.args
     args-counted = fit-count t ins c.args at.symbol.args at.fits
@@ -251,12 +252,12 @@ module _ (t : Theory) (h : WellFormed t) (d : Diagram) (g : DiagramWell t d) (an
         let same : Some at.symbol ≡ Some s.symbol = sym at.there ∙ s.there in
         let one : at.symbol ≡ s.symbol = cc in
         let inputs : length c.args ≡ length r.routine.inputs = args-counted ∙ ap (λ (y : Symbol). length y.args) one ∙ ap length s.with_args in
-        let made_is : made_by t c ≡ map (λ (f : SymId). App f c.args) r.routine.outputs = ap (made_at t c.args) is ∙ ap (outputs_at c.args) r.there in
+        let made_is : made_by t c ≡ map (λ (f : SymId). App f c.args) r.routine.outputs = ap (made_at t c.args) is ∙ ap (outputs_made c.args) r.there in
         let outputs : length (made_by t c) ≡ length r.routine.outputs = ap length made_is ∙ length-map r.routine.outputs (λ (f : SymId). App f c.args) in
         let front = map (operand_for t d names) c.args in
-        let back = map (λ (x : Term). operand.Name (name_of names x)) (made_by t c) in
+        let back = map (λ (x : Term). operand.Name (name_of_term names x)) (made_by t c) in
         let front_length : length front ≡ length c.args = length-map c.args (operand_for t d names) in
-        let back_length : length back ≡ length (made_by t c) = length-map (made_by t c) (λ (x : Term). operand.Name (name_of names x)) in
+        let back_length : length back ≡ length (made_by t c) = length-map (made_by t c) (λ (x : Term). operand.Name (name_of_term names x)) in
         let total : length (front ++ back) ≡ length front + length back = length-append front back in
         let some_output : 1 ≤ length r.routine.outputs = i.some_output in
         let few : length r.routine.inputs + length r.routine.outputs ≤ 18 = i.few in
@@ -276,7 +277,7 @@ module _ (t : Theory) (h : WellFormed t) (d : Diagram) (g : DiagramWell t d) (an
         let is : c.callee ≡ callee.Function f.index = f.is ∙ ap callee.Function (omega arith) in
         let i = all-at (IsFunction t) t.functions f.index f.function h.functions f.there in
         let y = all-at (IsSymbol t) t.sig.symbols is_call.symbol.0 at.symbol h.symbols at.there in
-        let made_is : made_by t c ≡ App f.function.symbol c.args ∷ [] = ap (made_at t c.args) is ∙ ap (value_at c.args) f.there in
+        let made_is : made_by t c ≡ App f.function.symbol c.args ∷ [] = ap (made_at t c.args) is ∙ ap (value_made c.args) f.there in
         let value = App f.function.symbol c.args in
         let there : Among value (made_by t c) = subst (λ (xs : List Term). Among value xs) (sym made_is) (inl refl) in
         let target : is_fortran_name (first_name names (made_by t c)) ≡ true = ap (λ (xs : List Term). is_fortran_name (first_name names xs)) made_is ∙ made-fortran value (among-flat (made_by t) c value (calls t answer) m there) in
@@ -306,26 +307,26 @@ module _ (t : Theory) (h : WellFormed t) (d : Diagram) (g : DiagramWell t d) (an
       (all-flat-map is_statement (statement_of t d names) (calls t answer) call-well)
       (copies-well t h d names d.outputs answer outputs-fortran answer-operand)
 
-  dummies-fortran : list_all is_fortran_name (names_of (arguments d)) ≡ true
+  dummies-fortran : list_all is_fortran_name (entry_names (dummies_of d)) ≡ true
   dummies-fortran = both d.inputs inputs-fortran
     where
-      both : (es : List (List ℕ × SortId)) → list_all is_fortran_name (names_of es) ≡ true → list_all is_fortran_name (names_of (es ++ d.outputs)) ≡ true
+      both : (es : List (List ℕ × SortId)) → list_all is_fortran_name (entry_names es) ≡ true → list_all is_fortran_name (entry_names (es ++ d.outputs)) ≡ true
       both [] e = outputs-fortran
-      both (x ∷ xs) e = and_both (is_fortran_name x.0) (list_all is_fortran_name (names_of (xs ++ d.outputs))) (and_left (is_fortran_name x.0) (list_all is_fortran_name (names_of xs)) e) (both xs (and_right (is_fortran_name x.0) (list_all is_fortran_name (names_of xs)) e))
+      both (x ∷ xs) e = and_both (is_fortran_name x.0) (list_all is_fortran_name (entry_names (xs ++ d.outputs))) (and_left (is_fortran_name x.0) (list_all is_fortran_name (entry_names xs)) e) (both xs (and_right (is_fortran_name x.0) (list_all is_fortran_name (entry_names xs)) e))
 
   names-fortran : list_all (λ (e : Named). is_fortran_name e.0) names ≡ true
   names-fortran = subst (λ (es : List Named). list_all (λ (e : Named). is_fortran_name e.0) es ≡ true) (sym (named-are t d answer)) (named-all d.outputs answer outputs-fortran 1 (made t answer))
 
-  declarations-well : list_all is_declaration (map (dummy_decl t) (arguments d) ++ map (local_decl t) (locals d.outputs answer names) ++ map (function_decl t) (functions_used t (calls t answer))) ≡ true
+  declarations-well : list_all is_declaration (map (dummy_decl t) (dummies_of d) ++ map (local_decl t) (locals d.outputs answer names) ++ map (called_function_decl t) (functions_used t (calls t answer))) ≡ true
   declarations-well =
-      all-append is_declaration (map (dummy_decl t) (arguments d) ++ map (local_decl t) (locals d.outputs answer names)) (map (function_decl t) (functions_used t (calls t answer)))
-      (all-append is_declaration (map (dummy_decl t) (arguments d)) (map (local_decl t) (locals d.outputs answer names))
-      (dummies-declared t h (arguments d) dummies-fortran)
+      all-append is_declaration (map (dummy_decl t) (dummies_of d) ++ map (local_decl t) (locals d.outputs answer names)) (map (called_function_decl t) (functions_used t (calls t answer)))
+      (all-append is_declaration (map (dummy_decl t) (dummies_of d)) (map (local_decl t) (locals d.outputs answer names))
+      (dummies-declared t h (dummies_of d) dummies-fortran)
       (locals-declared t h (locals d.outputs answer names) (locals-all d.outputs answer outputs-fortran names names-fortran)))
       (functions-declared t h (calls t answer))
 
-  dummies-counted : length (names_of (arguments d)) ≡ length d.inputs + length d.outputs
-  dummies-counted = length-map (arguments d) (λ (e : List ℕ × SortId). e.0) ∙ length-append d.inputs d.outputs
+  dummies-counted : length (entry_names (dummies_of d)) ≡ length d.inputs + length d.outputs
+  dummies-counted = length-map (dummies_of d) (λ (e : List ℕ × SortId). e.0) ∙ length-append d.inputs d.outputs
 
 -- what a unit keeps
 pub record WellMade (n : List ℕ) (ds : List (List ℕ)) (es : List Decl) (ss : List Statement) : Type 0 where
@@ -338,9 +339,9 @@ pub record WellMade (n : List ℕ) (ds : List (List ℕ)) (es : List Decl) (ss :
 
 -- the parts of the unit of an answer
 pub plan-well : (t : Theory) (d : Diagram) (answer : List Term) (n : List ℕ) (ds : List (List ℕ)) (es : List Decl) (ss : List Statement) → WellFormed t → DiagramWell t d → IsAnswerFor t d answer
-    → n ≡ d.name → ds ≡ names_of (arguments d)
-    → es ≡ map (dummy_decl t) (arguments d) ++ map (local_decl t) (locals d.outputs answer (named t d answer)) ++ map (function_decl t) (functions_used t (calls t answer))
-    → ss ≡ flat_map (statement_of t d (named t d answer)) (calls t answer) ++ copies t d (named t d answer) d.outputs answer
+    → n ≡ d.name → ds ≡ entry_names (dummies_of d)
+    → es ≡ map (dummy_decl t) (dummies_of d) ++ map (local_decl t) (locals d.outputs answer (named_terms t d answer)) ++ map (called_function_decl t) (functions_used t (calls t answer))
+    → ss ≡ flat_map (statement_of t d (named_terms t d answer)) (calls t answer) ++ copies t d (named_terms t d answer) d.outputs answer
     → WellMade n ds es ss
 plan-well t d answer n ds es ss h g a en eds ees ess =
     let counted : length ds ≡ length d.inputs + length d.outputs = ap length eds ∙ dummies-counted t h d g answer a in

@@ -18,10 +18,10 @@ use Rattle.am_theory.specs.Faults.{is_free_name, suits}
 use Rattle.am_theory.specs.Facts.{is_in_range, is_array, is_value}
 use Rattle.am_diagram.specs.Facts.{IsFree}
 use Rattle.am_theory.specs.declared.theory.Theory.{Theory}
-use Rattle.am_diagram.specs.Listed.{names_of}
-use Rattle.am_fortran.specs.Well.{is_between, is_type, is_text_byte, is_operand}
+use Rattle.am_diagram.specs.Listed.{entry_names}
+use Rattle.am_fortran.specs.Well.{is_between, is_type, is_unit_text_byte, is_operand}
 use Rattle.am_exec.specs.Types.{dummy_type, local_type, is_scalar}
-use Rattle.am_plan.specs.Names.{digit, local_name, output_for, Named, named_by, local_by, locals, name_of}
+use Rattle.am_plan.specs.Names.{digit, local_name, output_for, Named, named_by, local_by, locals, name_of_term}
 use Rattle.am_plan.specs.Numbering.{next_local, named_from}
 use Rattle.am_plan.specs.Plan.{written_value}
 use Rattle.am_plan.proofs.Membership.{Among}
@@ -96,16 +96,16 @@ local-fortran n =
     let bytes : list_all is_fortran_byte digits ≡ true = five (is_fortran_byte (digit n 10000)) (is_fortran_byte (digit n 1000)) (is_fortran_byte (digit n 100)) (is_fortran_byte (digit n 10)) (is_fortran_byte (digit n 1)) (digit-fortran n 10000) (digit-fortran n 1000) (digit-fortran n 100) (digit-fortran n 10) (digit-fortran n 1) in
     and_both (list_all is_fortran_byte digits) true bytes refl
 
-pub output-fortran : (x : Term) (os : List (List ℕ × SortId)) (as_ : List Term) (n : List ℕ) → list_all is_fortran_name (names_of os) ≡ true → output_for x os as_ ≡ Some n → is_fortran_name n ≡ true
+pub output-fortran : (x : Term) (os : List (List ℕ × SortId)) (as_ : List Term) (n : List ℕ) → list_all is_fortran_name (entry_names os) ≡ true → output_for x os as_ ≡ Some n → is_fortran_name n ≡ true
 output-fortran x [] as_ n all e = absurd cc
 output-fortran x (o ∷ os) [] n all e = absurd cc
-output-fortran x (o ∷ os) (a ∷ as_) n all e = by_test (same_term x a) refl e (output-fortran x os as_ n (and_right (is_fortran_name o.0) (list_all is_fortran_name (names_of os)) all))
+output-fortran x (o ∷ os) (a ∷ as_) n all e = by_test (same_term x a) refl e (output-fortran x os as_ n (and_right (is_fortran_name o.0) (list_all is_fortran_name (entry_names os)) all))
   where
     by_test : (b : Bool) → same_term x a ≡ b → (if same_term x a then Some o.0 else output_for x os as_) ≡ Some n → (output_for x os as_ ≡ Some n → is_fortran_name n ≡ true) → is_fortran_name n ≡ true
     by_test true h i later =
         let j : Some o.0 ≡ Some n = sym (ap (λ (b : Bool). cond b (Some o.0) (output_for x os as_)) h) ∙ i in
         let is : o.0 ≡ n = cc in
-        subst (λ (m : List ℕ). is_fortran_name m ≡ true) is (and_left (is_fortran_name o.0) (list_all is_fortran_name (names_of os)) all)
+        subst (λ (m : List ℕ). is_fortran_name m ≡ true) is (and_left (is_fortran_name o.0) (list_all is_fortran_name (entry_names os)) all)
     by_test false h i later = later (sym (ap (λ (b : Bool). cond b (Some o.0) (output_for x os as_)) h) ∙ i)
 
 entry-fortran : (o : Option (List ℕ)) (k : ℕ) (x : Term) → ((n : List ℕ) → o ≡ Some n → is_fortran_name n ≡ true) → is_fortran_name (named_by o k x).0 ≡ true
@@ -116,7 +116,7 @@ entry-term : (o : Option (List ℕ)) (k : ℕ) (x : Term) → (named_by o k x).1
 entry-term None k x = refl
 entry-term (Some n) k x = refl
 
-module _ (os : List (List ℕ × SortId)) (answer : List Term) (all : list_all is_fortran_name (names_of os) ≡ true) where
+module _ (os : List (List ℕ × SortId)) (answer : List Term) (all : list_all is_fortran_name (entry_names os) ≡ true) where
   pub named-all : (k : ℕ) (xs : List Term) → list_all (λ (e : Named). is_fortran_name e.0) (named_from k os answer xs) ≡ true
   named-all k [] = refl
   named-all k (x ∷ xs) =
@@ -125,7 +125,7 @@ module _ (os : List (List ℕ × SortId)) (answer : List Term) (all : list_all i
       (entry-fortran o k x (λ n e. output-fortran x os answer n all e))
       (named-all (next_local o k) xs)
 
-  pub name-fortran : (k : ℕ) (xs : List Term) (x : Term) → Among x xs → is_fortran_name (name_of (named_from k os answer xs) x) ≡ true
+  pub name-fortran : (k : ℕ) (xs : List Term) (x : Term) → Among x xs → is_fortran_name (name_of_term (named_from k os answer xs) x) ≡ true
   name-fortran k [] x m = absurd m
   name-fortran k (y ∷ ys) x m = by_test (same_term first.1 x) refl m (name-fortran (next_local o k) ys x)
     where
@@ -141,10 +141,10 @@ module _ (os : List (List ℕ × SortId)) (answer : List Term) (all : list_all i
       found : is_fortran_name first.0 ≡ true
       found = entry-fortran o k y (λ n e. output-fortran y os answer n all e)
 
-      by_test : (b : Bool) → same_term first.1 x ≡ b → Among x (y ∷ ys) → (Among x ys → is_fortran_name (name_of rest x) ≡ true) → is_fortran_name (if same_term first.1 x then first.0 else name_of rest x) ≡ true
-      by_test true h m later = ap (λ (b : Bool). is_fortran_name (if b then first.0 else name_of rest x)) h ∙ found
+      by_test : (b : Bool) → same_term first.1 x ≡ b → Among x (y ∷ ys) → (Among x ys → is_fortran_name (name_of_term rest x) ≡ true) → is_fortran_name (if same_term first.1 x then first.0 else name_of_term rest x) ≡ true
+      by_test true h m later = ap (λ (b : Bool). is_fortran_name (if b then first.0 else name_of_term rest x)) h ∙ found
       by_test false h (inl is) later = never_both (same_term first.1 x) (subst (λ (z : Term). same_term first.1 z ≡ true) (entry-term o k y ∙ sym is) (same_term-refl first.1)) h
-      by_test false h (inr m) later = ap (λ (b : Bool). is_fortran_name (if b then first.0 else name_of rest x)) h ∙ later m
+      by_test false h (inr m) later = ap (λ (b : Bool). is_fortran_name (if b then first.0 else name_of_term rest x)) h ∙ later m
 
   pub locals-all : (es : List Named) → list_all (λ (e : Named). is_fortran_name e.0) es ≡ true → list_all (λ (e : Named). is_fortran_name e.0) (locals os answer es) ≡ true
   locals-all [] e = refl
@@ -155,22 +155,22 @@ module _ (os : List (List ℕ × SortId)) (answer : List Term) (all : list_all i
       by_output (Some n) = refl
 
 -- the name of an input that has a sort
-pub input-fortran : (es : List (List ℕ × SortId)) (k : ℕ) → list_all is_fortran_name (names_of es) ≡ true → is_some (slice_get (map (λ (e : List ℕ × SortId). e.1) es) k) ≡ true → is_fortran_name (slice_index_or (names_of es) k []) ≡ true
+pub input-fortran : (es : List (List ℕ × SortId)) (k : ℕ) → list_all is_fortran_name (entry_names es) ≡ true → is_some (slice_get (map (λ (e : List ℕ × SortId). e.1) es) k) ≡ true → is_fortran_name (slice_index_or (entry_names es) k []) ≡ true
 input-fortran [] k all e = absurd (true≢false (sym e))
-input-fortran (x ∷ es) zero all e = and_left (is_fortran_name x.0) (list_all is_fortran_name (names_of es)) all
-input-fortran (x ∷ es) (suc k) all e = input-fortran es k (and_right (is_fortran_name x.0) (list_all is_fortran_name (names_of es)) all) e
+input-fortran (x ∷ es) zero all e = and_left (is_fortran_name x.0) (list_all is_fortran_name (entry_names es)) all
+input-fortran (x ∷ es) (suc k) all e = input-fortran es k (and_right (is_fortran_name x.0) (list_all is_fortran_name (entry_names es)) all) e
 
 -- ---- values
 -- what stands in a text of a theory
 abbrev is_byte_of_text : ℕ → Bool
 is_byte_of_text b = nat_le 32 b && (nat_le b 126 && (not (b == 34) && not (b == 39)))
 
-text-byte : (b : ℕ) → is_text_byte b ≡ is_byte_of_text b
+text-byte : (b : ℕ) → is_unit_text_byte b ≡ is_byte_of_text b
 text-byte b = and_assoc (nat_le 32 b) (nat_le b 126) (not (b == 34) && not (b == 39))
 
-text-bytes : (bs : List ℕ) → list_all is_byte_of_text bs ≡ true → list_all is_text_byte bs ≡ true
+text-bytes : (bs : List ℕ) → list_all is_byte_of_text bs ≡ true → list_all is_unit_text_byte bs ≡ true
 text-bytes [] e = refl
-text-bytes (b ∷ bs) e = and_both (is_text_byte b) (list_all is_text_byte bs) (text-byte b ∙ and_left (is_byte_of_text b) (list_all is_byte_of_text bs) e) (text-bytes bs (and_right (is_byte_of_text b) (list_all is_byte_of_text bs) e))
+text-bytes (b ∷ bs) e = and_both (is_unit_text_byte b) (list_all is_unit_text_byte bs) (text-byte b ∙ and_left (is_byte_of_text b) (list_all is_byte_of_text bs) e) (text-bytes bs (and_right (is_byte_of_text b) (list_all is_byte_of_text bs) e))
 
 text-length : (x : List ℕ) (r : Option Rep) → suits (value.Text x) r ≡ true → is_between 1 32 (length x) ≡ true
 text-length x None e = absurd (true≢false (sym e))
@@ -187,7 +187,7 @@ text-length x (Some (rep.IntegerVec m)) e = absurd (true≢false (sym e))
 
 pub value-well : (v : LitValue) (r : Option Rep) → suits v r ≡ true → is_value v ≡ true → is_operand (written_value v) ≡ true
 value-well (value.Int z) r s e = refl
-value-well (value.Text x) r s e = and_both (list_all is_text_byte x) (is_between 1 32 (length x)) (text-bytes x e) (text-length x r s)
+value-well (value.Text x) r s e = and_both (list_all is_unit_text_byte x) (is_between 1 32 (length x)) (text-bytes x e) (text-length x r s)
 
 -- ---- types
 pub dummy-typed : (r : Rep) → is_in_range r ≡ true → is_type (dummy_type r) ≡ true

@@ -2,7 +2,7 @@
 use Rattle.std.proofs.Common.{◌≡◌, ◌∙◌, inl, inr, ◌++◌, ℕ, Bool, true, false, refl, sym, ap, subst, List, [], ◌∷◌, Option, Some, None, map, if◌then◌else◌}
 use Rattle.am_term.specs.declared.id.SortId.{SortId}
 use Rattle.am_term.specs.declared.term.Term.{Term}
-use Rattle.am_diagram.specs.Listed.{names_of}
+use Rattle.am_diagram.specs.Listed.{entry_names}
 use Rattle.am_exec.specs.States.{Store}
 use Rattle.am_plan.specs.Names.{output_for, Named, local_by, locals}
 use Rattle.am_plan.specs.Plan.{is_set}
@@ -40,12 +40,12 @@ module _ (names : List Named) where
   copied (o ∷ os) [] = []
   copied (o ∷ os) (x ∷ xs) = (if is_set names o.0 then [] else (o.0, x) ∷ []) ++ copied os xs
 
-  pub copied-so : (e : List ℕ × Term) (os : List (List ℕ × SortId)) (xs : List Term) → Among e (copied os xs) → Among e.0 (names_of os) × (is_set names e.0 ≡ false)
+  pub copied-so : (e : List ℕ × Term) (os : List (List ℕ × SortId)) (xs : List Term) → Among e (copied os xs) → Among e.0 (entry_names os) × (is_set names e.0 ≡ false)
   copied-so e [] xs a = absurd a
   copied-so e (o ∷ os) [] a = absurd a
   copied-so e (o ∷ os) (x ∷ xs) a = by_set (copied-so e os xs) (is_set names o.0) refl a
     where
-      by_set : (Among e (copied os xs) → Among e.0 (names_of os) × (is_set names e.0 ≡ false)) → (b : Bool) → is_set names o.0 ≡ b → Among e ((if b then [] else (o.0, x) ∷ []) ++ copied os xs) → Among e.0 (o.0 ∷ names_of os) × (is_set names e.0 ≡ false)
+      by_set : (Among e (copied os xs) → Among e.0 (entry_names os) × (is_set names e.0 ≡ false)) → (b : Bool) → is_set names o.0 ≡ b → Among e ((if b then [] else (o.0, x) ∷ []) ++ copied os xs) → Among e.0 (o.0 ∷ entry_names os) × (is_set names e.0 ≡ false)
       by_set later true is a = let r = later a in (inr r.0, r.1)
       by_set later false is (inl s) = let same : e.0 ≡ o.0 = ap (λ (q : List ℕ × Term). q.0) s in (inl same, ap (is_set names) same ∙ is)
       by_set later false is (inr a) = let r = later a in (inr r.0, r.1)
@@ -59,11 +59,11 @@ module _ (names : List Named) where
       (inl (ap (λ (q : List ℕ × SortId). let r : List ℕ × Term = (q.0, x) in r) s.0 ∙ ap (λ (z : Term). let r : List ℕ × Term = (p.0, z) in r) s.1)))
   copied-there o x (p ∷ os) (y ∷ xs) (inr a) is = among-right (o.0, x) (if is_set names p.0 then [] else (p.0, y) ∷ []) (copied os xs) (copied-there o x os xs a is)
 
-  pub copied-differ : (os : List (List ℕ × SortId)) (xs : List Term) → Different (names_of os) → Different (names_in (copied os xs))
+  pub copied-differ : (os : List (List ℕ × SortId)) (xs : List Term) → Different (entry_names os) → Different (names_in (copied os xs))
   copied-differ [] xs h = tt
   copied-differ (o ∷ os) [] h = tt
   copied-differ (o ∷ os) (x ∷ xs) h = by_set (is_set names o.0) (copied-differ os xs h.1)
     where
       by_set : (b : Bool) → Different (names_in (copied os xs)) → Different (names_in ((if b then [] else (o.0, x) ∷ []) ++ copied os xs))
       by_set true r = r
-      by_set false r = ((λ a. let e = map-among (λ (e : List ℕ × Term). e.0) o.0 (copied os xs) a in h.0 (subst (λ (n : List ℕ). Among n (names_of os)) (sym e.2) (copied-so e.0 os xs e.1).0)), r)
+      by_set false r = ((λ a. let e = map-among (λ (e : List ℕ × Term). e.0) o.0 (copied os xs) a in h.0 (subst (λ (n : List ℕ). Among n (entry_names os)) (sym e.2) (copied-so e.0 os xs e.1).0)), r)

@@ -17,13 +17,13 @@ use Rattle.am_theory.specs.declared.theory.Theory.{Theory}
 use Rattle.am_theory.specs.declared.theory.LiteralDecl.{LiteralDecl}
 use Rattle.am_theory.specs.Facts.{WellFormed as WellFormedTheory, IsFunction}
 use Rattle.am_diagram.specs.declared.diagram.Diagram.{Diagram}
-use Rattle.am_diagram.specs.Listed.{sorts_in}
+use Rattle.am_diagram.specs.Listed.{entry_sorts}
 use Rattle.am_exec.proofs.Listed.{contains-here, contains-later}
 use Rattle.am_plan.specs.declared.call.Callee.{Callee}
 use Rattle.am_plan.specs.declared.call.Callee.TheVariants as callee
-use Rattle.am_plan.specs.Calls.{PlannedCall, completed, callee_of, call_with, listed, same_call, asked, calls, made_by}
-use Rattle.am_plan.specs.Names.{Named, named}
-use Rattle.am_theory.specs.Lookups.{literal_of}
+use Rattle.am_plan.specs.Calls.{PlannedCall, completed, callee_of, call_with, listed_option, same_call, asks_for, calls, made_by}
+use Rattle.am_plan.specs.Names.{Named, named_terms}
+use Rattle.am_theory.specs.Lookups.{literal_declared}
 use Rattle.am_plan.specs.Plan.{statement_of, routine_call, function_call}
 use Rattle.am_plan.specs.Laws.{are_different, EachCallOnce, IsNeeded, AreNeeded, NothingNeedless}
 use Rattle.am_plan.proofs.Membership.{Among, Different, all-among, among-all, among-left, among-right, among-split, different-apart}
@@ -48,7 +48,7 @@ all-different : (cs : List PlannedCall) → Different cs → are_different cs �
 all-different [] h = refl
 all-different (c ∷ cs) h = and_both (not (among same_call c cs)) (are_different cs) (not_false (among same_call c cs) (none-same c cs h.0)) (all-different cs h.1)
 
-one-statement : (t : Theory) (d : Diagram) (names : List Named) (args : List Term) (c : Callee) → CalleeFits t (sorts_in d.inputs) args c → length (statement_of t d names (call_with args c)) ≡ 1
+one-statement : (t : Theory) (d : Diagram) (names : List Named) (args : List Term) (c : Callee) → CalleeFits t (entry_sorts d.inputs) args c → length (statement_of t d names (call_with args c)) ≡ 1
 one-statement t d names args (callee.Routine k) fit = ap (λ o. length (routine_call t d names (call_with args (callee.Routine k)) o)) fit.1
 one-statement t d names args (callee.Function k) fit = ap (λ o. length (function_call t d names (call_with args (callee.Function k)) o)) fit.1
 
@@ -59,9 +59,9 @@ calls-once t d answer h wd serve =
     let fit = ready-fit t d h answer fine [] (calls t answer) (calls-ready t d h answer fine) in
     record {
       different = all-different (calls t answer) (calls-differ t d h answer fine);
-      called = among-all (λ (c : PlannedCall). among same_call c (calls t answer) ≡ true) (asked t answer) (λ c a. among-same c (calls t answer) (distinct-among same_call same_call-is same_call-refl c (asked t answer) a));
-      asked_for = among-all (λ (c : PlannedCall). among same_call c (asked t answer) ≡ true) (calls t answer) (λ c a. among-same c (asked t answer) (distinct-from same_call c (asked t answer) a));
-      single = among-all (λ (c : PlannedCall). length (statement_of t d (named t d answer) c) ≡ 1) (calls t answer) (λ c a. one-statement t d (named t d answer) c.args c.callee (all-among (λ (c : PlannedCall). CalleeFits t (sorts_in d.inputs) c.args c.callee) c (calls t answer) fit a));
+      called = among-all (λ (c : PlannedCall). among same_call c (calls t answer) ≡ true) (asks_for t answer) (λ c a. among-same c (calls t answer) (distinct-among same_call same_call-is same_call-refl c (asks_for t answer) a));
+      asked_for = among-all (λ (c : PlannedCall). among same_call c (asks_for t answer) ≡ true) (calls t answer) (λ c a. among-same c (asks_for t answer) (distinct-from same_call c (asks_for t answer) a));
+      single = among-all (λ (c : PlannedCall). length (statement_of t d (named_terms t d answer) c) ≡ 1) (calls t answer) (λ c a. one-statement t d (named_terms t d answer) c.args c.callee (all-among (λ (c : PlannedCall). CalleeFits t (entry_sorts d.inputs) c.args c.callee) c (calls t answer) fit a));
     }
 
 -- ---- needed
@@ -85,7 +85,7 @@ used-more t roots more cs ds c w v r = record { output = r.output; there = r.the
 
 module _ (t : Theory) (h : WellFormedTheory t) (d : Diagram) where
   abbrev ins : List SortId
-  ins = sorts_in d.inputs
+  ins = entry_sorts d.inputs
 
   abbrev UsedAt : Term → Type 0
   UsedAt x = IsFine t ins x → (c : PlannedCall) → Among c (asks t (completed x)) → Used t (x ∷ []) (asks t (completed x)) c
@@ -97,7 +97,7 @@ module _ (t : Theory) (h : WellFormedTheory t) (d : Diagram) where
   called-used f args q p k is c a =
       let before = asks t (flat_map completed args) in
       let this = call_with args k in
-      let whole : asks t (completed (App f args)) ≡ before ++ this ∷ [] = asks-App t f args ∙ ap (λ (o : Option Callee). before ++ (listed (option_map (call_with args) o) ++ [])) is in
+      let whole : asks t (completed (App f args)) ≡ before ++ this ∷ [] = asks-App t f args ∙ ap (λ (o : Option Callee). before ++ (listed_option (option_map (call_with args) o) ++ [])) is in
       subst (λ (cs : List PlannedCall). Used t (App f args ∷ []) cs c) (sym whole) (by_side before this refl (callee-makes t d h f args k (callee-computes t f k is)) (λ b. q p.below c b) (among-split c before (this ∷ []) (subst (λ (cs : List PlannedCall). Among c cs) whole a)))
     where
       through : (before : List PlannedCall) (this : PlannedCall) → this.args ≡ args → Used t args before c → Used t (App f args ∷ []) (before ++ this ∷ []) c
@@ -120,7 +120,7 @@ module _ (t : Theory) (h : WellFormedTheory t) (d : Diagram) where
       by_callee p None is =
           let none = uncalled-none t d h f args p is in
           let before = asks t (flat_map completed args) in
-          let nothing : asks t (completed (App f args)) ≡ [] = asks-App t f args ∙ ap (λ (o : Option Callee). before ++ (listed (option_map (call_with args) o) ++ [])) is ∙ append-nil before ∙ ap (λ (xs : List Term). asks t (flat_map completed xs)) none in
+          let nothing : asks t (completed (App f args)) ≡ [] = asks-App t f args ∙ ap (λ (o : Option Callee). before ++ (listed_option (option_map (call_with args) o) ++ [])) is ∙ append-nil before ∙ ap (λ (xs : List Term). asks t (flat_map completed xs)) none in
           absurd (subst (λ (cs : List PlannedCall). Among c cs) nothing a)
 
   input-used : (k : ℕ) → UsedAt (In k)
@@ -186,7 +186,7 @@ module _ (t : Theory) (h : WellFormedTheory t) (d : Diagram) where
       let none = computed-literal t h f c s.0 s.1 computes in
       let o : Term-F.App f args ≡ Term-F.App l.decl.symbol [] = sym (outs-App f args) ∙ ap out-Term (sym is ∙ l.is) ∙ outs-App l.decl.symbol [] in
       let same : f ≡ l.decl.symbol = cc in
-      absurd (some_none (sym (ap (literal_of t) same ∙ l.found) ∙ none))
+      absurd (some_none (sym (ap (literal_declared t) same ∙ l.found) ∙ none))
     where
       some_none : {x : LiteralDecl} → Some x ≡ None → ⊥
       some_none e = absurd cc
@@ -233,6 +233,6 @@ calls-needed t d answer h wd serve =
     let ready = calls-ready t d h answer fine in
     let fit = ready-fit t d h answer fine [] (calls t answer) ready in
     needed-from t h d answer (calls t answer) ready (made-differ t d h answer fine) fit
-    (λ c y a i. makes-so t d h answer fine c.args c.callee y (all-among (λ (c : PlannedCall). CalleeFits t (sorts_in d.inputs) c.args c.callee) c (calls t answer) fit a) i)
-    (λ c a. used-more t answer answer (asked t answer) (calls t answer) c (λ x i. i) (λ b i. distinct-among same_call same_call-is same_call-refl b (asked t answer) i) (all-used t h d answer fine c (distinct-from same_call c (asked t answer) a)))
+    (λ c y a i. makes-so t d h answer fine c.args c.callee y (all-among (λ (c : PlannedCall). CalleeFits t (entry_sorts d.inputs) c.args c.callee) c (calls t answer) fit a) i)
+    (λ c a. used-more t answer answer (asks_for t answer) (calls t answer) c (λ x i. i) (λ b i. distinct-among same_call same_call-is same_call-refl b (asks_for t answer) i) (all-used t h d answer fine c (distinct-from same_call c (asks_for t answer) a)))
     [] (calls t answer) refl

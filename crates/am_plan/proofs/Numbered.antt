@@ -9,7 +9,7 @@ use Rattle.am_term.specs.declared.term.Term.{Term}
 use Rattle.am_theory.specs.declared.theory.Theory.{Theory}
 use Rattle.am_diagram.specs.declared.diagram.Diagram.{Diagram}
 use Rattle.am_plan.specs.Calls.{made}
-use Rattle.am_plan.specs.Names.{output_for, named_by, is_absent, locals_among, named_behind, named}
+use Rattle.am_plan.specs.Names.{output_for, named_by, is_absent, locals_among, named_behind, named_terms}
 use Rattle.am_plan.specs.Numbering.{next_local, named_from}
 
 module _ (os : List (List ℕ × SortId)) (answer : List Term) where
@@ -33,8 +33,8 @@ module _ (os : List (List ℕ × SortId)) (answer : List Term) where
   pub from-start : (xs : List Term) → named_behind os answer [] xs ≡ named_from 1 os answer xs
   from-start xs = behind-from [] xs
 
-pub named-are : (t : Theory) (d : Diagram) (answer : List Term) → named t d answer ≡ named_from 1 d.outputs answer (made t answer)
-unfolding named
+pub named-are : (t : Theory) (d : Diagram) (answer : List Term) → named_terms t d answer ≡ named_from 1 d.outputs answer (made t answer)
+unfolding named_terms
 named-are t d answer = from-start d.outputs answer (made t answer)
 
 pub ruleset numbering = (common_steps, from-start)

@@ -17,10 +17,10 @@ use Rattle.am_theory.specs.declared.theory.Routine.{Routine}
 use Rattle.am_theory.specs.declared.theory.Theory.{Theory}
 use Rattle.am_theory.specs.Facts.{WellFormed}
 use Rattle.am_diagram.specs.declared.diagram.Diagram.{Diagram}
-use Rattle.am_diagram.specs.Listed.{sorts_in}
+use Rattle.am_diagram.specs.Listed.{entry_sorts}
 use Rattle.am_plan.specs.declared.call.Callee.{Callee}
 use Rattle.am_plan.specs.declared.call.Callee.TheVariants as callee
-use Rattle.am_plan.specs.Calls.{PlannedCall, call_with, same_callee, same_call, asked, calls, outputs_at, value_at, made_by, made}
+use Rattle.am_plan.specs.Calls.{PlannedCall, call_with, same_callee, same_call, asks_for, calls, outputs_made, value_made, made_by, made}
 use Rattle.am_plan.proofs.Membership.{Among, Different, all-among, among-map, map-among, among-left, among-right, among-split, flat-among, among-flat, different-left, different-right, different-append, different-map}
 use Rattle.am_plan.proofs.Standing.{Available}
 use Rattle.am_plan.proofs.Callees.{Computes, one-callee, outputs-different}
@@ -161,37 +161,37 @@ module _ (t : Theory) (d : Diagram) where
         (distinct-ready (done ++ made_by t c) cs r.1),
   )
 
-  module _ (h : WellFormed t) (answer : List Term) (fine : AllByRecursion (IsFine t (sorts_in d.inputs)) answer) where
+  module _ (h : WellFormed t) (answer : List Term) (fine : AllByRecursion (IsFine t (entry_sorts d.inputs)) answer) where
     -- each call's arguments are done before it
     pub calls-ready : AreReady t d [] (calls t answer)
     unfolding calls
-    calls-ready = distinct-ready [] (asked t answer) (terms-ordered t d h answer fine).0
+    calls-ready = distinct-ready [] (asks_for t answer) (terms-ordered t d h answer fine).0
 
     -- what was asked for is made
-    made-all : (z : Term) → Among z (flat_map (made_by t) (asked t answer)) → Among z (made t answer)
+    made-all : (z : Term) → Among z (flat_map (made_by t) (asks_for t answer)) → Among z (made t answer)
     unfolding calls
     made-all z a =
-        let c = flat-among (made_by t) z (asked t answer) a in
-        among-flat (made_by t) c.0 z (calls t answer) (distinct-among same_call same_call-is same_call-refl c.0 (asked t answer) c.1) c.2
+        let c = flat-among (made_by t) z (asks_for t answer) a in
+        among-flat (made_by t) c.0 z (calls t answer) (distinct-among same_call same_call-is same_call-refl c.0 (asks_for t answer) c.1) c.2
 
     pub answers-available : AllByRecursion (Available t d (made t answer)) answer
-    answers-available = all-available t d (flat_map (made_by t) (asked t answer)) (made t answer) answer made-all (terms-ordered t d h answer fine).1
+    answers-available = all-available t d (flat_map (made_by t) (asks_for t answer)) (made t answer) answer made-all (terms-ordered t d h answer fine).1
 
     pub calls-differ : Different (calls t answer)
     unfolding calls
-    calls-differ = distinct-differ same_call same_call-is same_call-refl (asked t answer)
+    calls-differ = distinct-differ same_call same_call-is same_call-refl (asks_for t answer)
 
     -- ---- made terms differ
-    pub ready-fit : (done : List Term) (cs : List PlannedCall) → AreReady t d done cs → AllByRecursion (λ (c : PlannedCall). CalleeFits t (sorts_in d.inputs) c.args c.callee) cs
+    pub ready-fit : (done : List Term) (cs : List PlannedCall) → AreReady t d done cs → AllByRecursion (λ (c : PlannedCall). CalleeFits t (entry_sorts d.inputs) c.args c.callee) cs
     ready-fit done [] r = tt
     ready-fit done (c ∷ cs) r = (r.0.fit, ready-fit (done ++ made_by t c) cs r.1)
 
     -- what a call makes
-    pub makes-so : (args : List Term) (c : Callee) (x : Term) → CalleeFits t (sorts_in d.inputs) args c → Among x (made_by t (call_with args c)) → (f : SymId) × (x ≡ App f args) × Computes t f c
+    pub makes-so : (args : List Term) (c : Callee) (x : Term) → CalleeFits t (entry_sorts d.inputs) args c → Among x (made_by t (call_with args c)) → (f : SymId) × (x ≡ App f args) × Computes t f c
     makes-so args (callee.Routine k) x fit a =
-        let r = map-among (λ (g : SymId). App g args) x fit.0.outputs (subst (λ (ys : List Term). Among x ys) (ap (outputs_at args) fit.1) a) in
+        let r = map-among (λ (g : SymId). App g args) x fit.0.outputs (subst (λ (ys : List Term). Among x ys) (ap (outputs_made args) fit.1) a) in
         (r.0, r.2, (fit.0, fit.1, r.1))
-    makes-so args (callee.Function k) x fit a = by_one (subst (λ (ys : List Term). Among x ys) (ap (value_at args) fit.1) a)
+    makes-so args (callee.Function k) x fit a = by_one (subst (λ (ys : List Term). Among x ys) (ap (value_made args) fit.1) a)
       where
         by_one : Among x (App fit.0.symbol args ∷ []) → (f : SymId) × (x ≡ App f args) × Computes t f (callee.Function k)
         by_one (inl e) = (fit.0.symbol, e, (fit.0, fit.1, refl))
@@ -200,7 +200,7 @@ module _ (t : Theory) (d : Diagram) where
     pub opened : (f g : SymId) (xs ys : List Term) → App f xs ≡ App g ys → (f ≡ g) × (xs ≡ ys)
     opened f g xs ys e = let o : Term-F.App f xs ≡ Term-F.App g ys = sym (outs-App f xs) ∙ ap out-Term e ∙ outs-App g ys in (cc, cc)
 
-    pub one-maker : (b c : PlannedCall) (x : Term) → CalleeFits t (sorts_in d.inputs) b.args b.callee → CalleeFits t (sorts_in d.inputs) c.args c.callee → Among x (made_by t b) → Among x (made_by t c) → b ≡ c
+    pub one-maker : (b c : PlannedCall) (x : Term) → CalleeFits t (entry_sorts d.inputs) b.args b.callee → CalleeFits t (entry_sorts d.inputs) c.args c.callee → Among x (made_by t b) → Among x (made_by t c) → b ≡ c
     one-maker b c x fit_b fit_c p q =
         let m = makes-so b.args b.callee x fit_b p in
         let n = makes-so c.args c.callee x fit_c q in
@@ -213,17 +213,17 @@ module _ (t : Theory) (d : Diagram) where
     routine-outputs (q ∷ rs) zero r at e = let same : q ≡ r = cc in subst (λ (z : Routine). Different z.outputs) same (different-left q.outputs (flat_map (λ (r : Routine). r.outputs) rs) e)
     routine-outputs (q ∷ rs) (suc k) r at e = routine-outputs rs k r at (different-right q.outputs (flat_map (λ (r : Routine). r.outputs) rs) e)
 
-    one-differ : (args : List Term) (c : Callee) → CalleeFits t (sorts_in d.inputs) args c → Different (made_by t (call_with args c))
+    one-differ : (args : List Term) (c : Callee) → CalleeFits t (entry_sorts d.inputs) args c → Different (made_by t (call_with args c))
     one-differ args (callee.Routine k) fit =
-        subst (λ (ys : List Term). Different ys) (sym (ap (outputs_at args) fit.1))
+        subst (λ (ys : List Term). Different ys) (sym (ap (outputs_made args) fit.1))
         (different-map (λ (f : SymId). App f args) fit.0.outputs (λ f g a b e. (opened f g args args e).0) (routine-outputs t.routines k fit.0 fit.1 (outputs-different t h)))
-    one-differ args (callee.Function k) fit = subst (λ (ys : List Term). Different ys) (sym (ap (value_at args) fit.1)) ((λ a. a), tt)
+    one-differ args (callee.Function k) fit = subst (λ (ys : List Term). Different ys) (sym (ap (value_made args) fit.1)) ((λ a. a), tt)
 
-    makes-differ : (cs : List PlannedCall) → Different cs → AllByRecursion (λ (c : PlannedCall). CalleeFits t (sorts_in d.inputs) c.args c.callee) cs → Different (flat_map (made_by t) cs)
+    makes-differ : (cs : List PlannedCall) → Different cs → AllByRecursion (λ (c : PlannedCall). CalleeFits t (entry_sorts d.inputs) c.args c.callee) cs → Different (flat_map (made_by t) cs)
     makes-differ [] e f = tt
     makes-differ (c ∷ cs) e f = different-append (made_by t c) (flat_map (made_by t) cs) (one-differ c.args c.callee f.0) (makes-differ cs e.1 f.1) (λ x a b.
         let r = flat-among (made_by t) x cs b in
-        let fit = all-among (λ (q : PlannedCall). CalleeFits t (sorts_in d.inputs) q.args q.callee) r.0 cs f.1 r.1 in
+        let fit = all-among (λ (q : PlannedCall). CalleeFits t (entry_sorts d.inputs) q.args q.callee) r.0 cs f.1 r.1 in
         e.0 (subst (λ (q : PlannedCall). Among q cs) (sym (one-maker c r.0 x f.0 fit a r.2)) r.1))
 
     pub made-differ : Different (made t answer)

@@ -21,7 +21,7 @@ use Rattle.am_theory.specs.Lookups.{rep_of, result_of, result_sort, function_nam
 use Rattle.am_theory.specs.Faults.{is_free_name}
 use Rattle.am_theory.specs.Facts.{WellFormed, IsConcrete, IsRoutine, IsFunction}
 use Rattle.am_diagram.specs.declared.diagram.Diagram.{Diagram}
-use Rattle.am_diagram.specs.Listed.{sorts_in, names_of}
+use Rattle.am_diagram.specs.Listed.{entry_sorts, entry_names}
 use Rattle.am_diagram.specs.Facts.{WellFormed as WellFormedDiagram, IsFree, all_names}
 use Rattle.am_fortran.specs.declared.statement.FortranType.{FortranType}
 use Rattle.am_fortran.specs.declared.statement.FortranType.TheVariants as fortran
@@ -29,11 +29,11 @@ use Rattle.am_fortran.specs.declared.statement.Decl.{Decl}
 use Rattle.am_fortran.specs.declared.unit.Unit.{Unit as Subroutine}
 use Rattle.am_exec.specs.Types.{dummy_type, local_type, type_by, type_of_name, is_text_of_any_length, same_type}
 use Rattle.am_exec.specs.Lawful.{dummies_of, further}
-use Rattle.am_exec.specs.ItemFaults.{same_names, is_bad_head, have_one_type, declared_names, is_local, function_type, has_function_type, is_function, declares, is_bad_declaration, lacks_dummy, declared_type, may_be_set, is_target}
+use Rattle.am_exec.specs.ItemFaults.{same_names, is_bad_head, have_one_type, declared_names, is_local, function_type, has_function_type, is_declared_function, declares, is_bad_declaration, lacks_dummy, declared_type, may_be_set, is_target}
 use Rattle.am_exec.specs.Terms.{bad_declaration}
 use Rattle.am_exec.proofs.Held.{eq_is, eq_same, or_both}
 use Rattle.am_plan.specs.Names.{local_name, Named}
-use Rattle.am_plan.specs.Plan.{rep_or_double, dummy_decl, head_of, rep_of_sort, rep_of_head, local_decl, function_decl, arguments}
+use Rattle.am_plan.specs.Plan.{rep_or_double, dummy_decl, head_symbol, rep_of_sort, rep_of_head, local_decl, called_function_decl}
 use Rattle.am_plan.proofs.Membership.{Among, Different, all-among, among-all, among-map, map-among, among-left, among-right, among-split, different-left, different-right, different-apart, different-append}
 use Rattle.am_plan.proofs.Holding.{not_among-is, among-is}
 use Rattle.am_plan.proofs.CallStatements.{find-named, distinct-different}
@@ -107,32 +107,32 @@ module _ (t : Theory) (h : WellFormed t) where
   local-no_function j = none-among (λ (f : FortranFunction). f.name) (local_name j) t.functions (λ f a e. true≢false (sym (local-is j) ∙ ap is_local_name (sym e) ∙ function-no_local f a)) (function_named t (local_name j)) refl
 
   module _ (d : Diagram) (wd : WellFormedDiagram t d) where
-    dummy-free : (n : List ℕ) → Among n (names_of (arguments d)) → IsFree t n
-    dummy-free n a = by_side (among-split n (names_of d.inputs) (names_of d.outputs) (subst (λ (ns : List (List ℕ)). Among n ns) (map-append (λ (e : List ℕ × SortId). e.0) d.inputs d.outputs) a))
+    dummy-free : (n : List ℕ) → Among n (entry_names (dummies_of d)) → IsFree t n
+    dummy-free n a = by_side (among-split n (entry_names d.inputs) (entry_names d.outputs) (subst (λ (ns : List (List ℕ)). Among n ns) (map-append (λ (e : List ℕ × SortId). e.0) d.inputs d.outputs) a))
       where
-        by_side : Among n (names_of d.inputs) ⊎ Among n (names_of d.outputs) → IsFree t n
-        by_side (inl b) = all-among (IsFree t) n (names_of d.inputs) wd.inputs_named b
-        by_side (inr b) = all-among (IsFree t) n (names_of d.outputs) wd.outputs_named b
+        by_side : Among n (entry_names d.inputs) ⊎ Among n (entry_names d.outputs) → IsFree t n
+        by_side (inl b) = all-among (IsFree t) n (entry_names d.inputs) wd.inputs_named b
+        by_side (inr b) = all-among (IsFree t) n (entry_names d.outputs) wd.outputs_named b
 
     names-there : Different (all_names d)
     names-there = distinct-different (all_names d) wd.distinct
 
-    behind-name : Different (names_of d.inputs ++ names_of d.objects ++ names_of d.outputs)
+    behind-name : Different (entry_names d.inputs ++ entry_names d.objects ++ entry_names d.outputs)
     behind-name = names-there.1
 
-    pub inputs-differ : Different (names_of d.inputs)
-    inputs-differ = different-left (names_of d.inputs) (names_of d.objects) (different-left (names_of d.inputs ++ names_of d.objects) (names_of d.outputs) behind-name)
+    pub inputs-differ : Different (entry_names d.inputs)
+    inputs-differ = different-left (entry_names d.inputs) (entry_names d.objects) (different-left (entry_names d.inputs ++ entry_names d.objects) (entry_names d.outputs) behind-name)
 
-    pub outputs-differ : Different (names_of d.outputs)
-    outputs-differ = different-right (names_of d.inputs ++ names_of d.objects) (names_of d.outputs) behind-name
+    pub outputs-differ : Different (entry_names d.outputs)
+    outputs-differ = different-right (entry_names d.inputs ++ entry_names d.objects) (entry_names d.outputs) behind-name
 
-    pub input-no_output : (n : List ℕ) → Among n (names_of d.inputs) → Among n (names_of d.outputs) → ⊥
-    input-no_output n a b = different-apart n (names_of d.inputs ++ names_of d.objects) (names_of d.outputs) behind-name (among-left n (names_of d.inputs) (names_of d.objects) a) b
+    pub input-no_output : (n : List ℕ) → Among n (entry_names d.inputs) → Among n (entry_names d.outputs) → ⊥
+    input-no_output n a b = different-apart n (entry_names d.inputs ++ entry_names d.objects) (entry_names d.outputs) behind-name (among-left n (entry_names d.inputs) (entry_names d.objects) a) b
 
-    dummies-differ : Different (names_of (arguments d))
-    dummies-differ = subst (λ (ns : List (List ℕ)). Different ns) (sym (map-append (λ (e : List ℕ × SortId). e.0) d.inputs d.outputs)) (different-append (names_of d.inputs) (names_of d.outputs) inputs-differ outputs-differ input-no_output)
+    dummies-differ : Different (entry_names (dummies_of d))
+    dummies-differ = subst (λ (ns : List (List ℕ)). Different ns) (sym (map-append (λ (e : List ℕ × SortId). e.0) d.inputs d.outputs)) (different-append (entry_names d.inputs) (entry_names d.outputs) inputs-differ outputs-differ input-no_output)
 
-    dummy-no_local : (n : List ℕ) (j : ℕ) → Among n (names_of (arguments d)) → n ≡ local_name j → ⊥
+    dummy-no_local : (n : List ℕ) (j : ℕ) → Among n (entry_names (dummies_of d)) → n ≡ local_name j → ⊥
     dummy-no_local n j a e = true≢false (sym (local-is j) ∙ ap is_local_name (sym e) ∙ (dummy-free n a).not_local)
 
     -- ---- the plan's declarations
@@ -143,19 +143,19 @@ module _ (t : Theory) (h : WellFormed t) where
         (functions_named : (f : FortranFunction) → Among f fs → function_named t f.name ≡ Some f)
         (functions_differ : Different (map (λ (f : FortranFunction). f.name) fs))
         (name_is : u.name ≡ d.name)
-        (dummies_are : u.dummies ≡ names_of (arguments d))
-        (declarations_are : u.declarations ≡ map (dummy_decl t) (arguments d) ++ map (local_decl t) ls ++ map (function_decl t) fs) where
+        (dummies_are : u.dummies ≡ entry_names (dummies_of d))
+        (declarations_are : u.declarations ≡ map (dummy_decl t) (dummies_of d) ++ map (local_decl t) ls ++ map (called_function_decl t) fs) where
       abbrev dummy_decls : List Decl
-      dummy_decls = map (dummy_decl t) (arguments d)
+      dummy_decls = map (dummy_decl t) (dummies_of d)
 
       abbrev local_decls : List Decl
       local_decls = map (local_decl t) ls
 
       abbrev function_decls : List Decl
-      function_decls = map (function_decl t) fs
+      function_decls = map (called_function_decl t) fs
 
       -- names of declarations
-      dummy-names : (es : List (List ℕ × SortId)) → declared_names (map (dummy_decl t) es) ≡ names_of es
+      dummy-names : (es : List (List ℕ × SortId)) → declared_names (map (dummy_decl t) es) ≡ entry_names es
       dummy-names [] = refl
       dummy-names (e ∷ es) = ap (λ (ns : List (List ℕ)). e.0 ∷ ns) (dummy-names es)
 
@@ -163,12 +163,12 @@ module _ (t : Theory) (h : WellFormed t) where
       local-names [] = refl
       local-names (e ∷ es) = ap (λ (ns : List (List ℕ)). e.0 ∷ ns) (local-names es)
 
-      function-names : (gs : List FortranFunction) → declared_names (map (function_decl t) gs) ≡ map (λ (f : FortranFunction). f.name) gs
+      function-names : (gs : List FortranFunction) → declared_names (map (called_function_decl t) gs) ≡ map (λ (f : FortranFunction). f.name) gs
       function-names [] = refl
       function-names (g ∷ gs) = ap (λ (ns : List (List ℕ)). g.name ∷ ns) (function-names gs)
 
       abbrev dummy_names : List (List ℕ)
-      dummy_names = names_of (arguments d)
+      dummy_names = entry_names (dummies_of d)
 
       abbrev own_names : List (List ℕ)
       own_names = map (λ (e : Named). e.0) ls
@@ -180,7 +180,7 @@ module _ (t : Theory) (h : WellFormed t) where
       further-names = map-append (λ (e : Decl). e.name) local_decls function_decls ∙ ap (λ (ns : List (List ℕ)). ns ++ declared_names function_decls) (local-names ls) ∙ ap (λ (ns : List (List ℕ)). own_names ++ ns) (function-names fs)
 
       whole-names : declared_names (dummy_decls ++ (local_decls ++ function_decls)) ≡ dummy_names ++ (own_names ++ function_names)
-      whole-names = map-append (λ (e : Decl). e.name) dummy_decls (local_decls ++ function_decls) ∙ ap (λ (ns : List (List ℕ)). ns ++ declared_names (local_decls ++ function_decls)) (dummy-names (arguments d)) ∙ ap (λ (ns : List (List ℕ)). dummy_names ++ ns) further-names
+      whole-names = map-append (λ (e : Decl). e.name) dummy_decls (local_decls ++ function_decls) ∙ ap (λ (ns : List (List ℕ)). ns ++ declared_names (local_decls ++ function_decls)) (dummy-names (dummies_of d)) ∙ ap (λ (ns : List (List ℕ)). dummy_names ++ ns) further-names
 
       own-function : (n : List ℕ) → Among n own_names → Among n function_names → ⊥
       own-function n a b =
@@ -209,15 +209,15 @@ module _ (t : Theory) (h : WellFormed t) where
 
       -- ---- the head
       pub head-good : is_bad_head d u ≡ false
-      head-good = ap not (and_both (bytes_eq u.name d.name) (same_names u.dummies (names_of (dummies_of d)))
+      head-good = ap not (and_both (bytes_eq u.name d.name) (same_names u.dummies (entry_names (dummies_of d)))
           (subst (λ (n : List ℕ). bytes_eq n d.name ≡ true) (sym name_is) (eq_same d.name))
-          (subst (λ (ns : List (List ℕ)). same_names ns (names_of (dummies_of d)) ≡ true) (sym dummies_are) (names-same (names_of (dummies_of d)))))
+          (subst (λ (ns : List (List ℕ)). same_names ns (entry_names (dummies_of d)) ≡ true) (sym dummies_are) (names-same (entry_names (dummies_of d)))))
 
-      dummies-counted : length u.dummies ≡ length (arguments d)
-      dummies-counted = ap (λ (ns : List (List ℕ)). length ns) dummies_are ∙ length-map (arguments d) (λ (e : List ℕ × SortId). e.0)
+      dummies-counted : length u.dummies ≡ length (dummies_of d)
+      dummies-counted = ap (λ (ns : List (List ℕ)). length ns) dummies_are ∙ length-map (dummies_of d) (λ (e : List ℕ × SortId). e.0)
 
       dummy_decls-counted : length dummy_decls ≡ length u.dummies
-      dummy_decls-counted = length-map (arguments d) (dummy_decl t) ∙ sym dummies-counted
+      dummy_decls-counted = length-map (dummies_of d) (dummy_decl t) ∙ sym dummies-counted
 
       pub none-lacks : lacks_dummy u ≡ false
       none-lacks = enough (length u.declarations) (length u.dummies) (length (local_decls ++ function_decls)) (ap (λ (es : List Decl). length es) decls-are ∙ length-append dummy_decls (local_decls ++ function_decls) ∙ ap (λ (n : ℕ). n + length (local_decls ++ function_decls)) dummy_decls-counted)
@@ -230,26 +230,26 @@ module _ (t : Theory) (h : WellFormed t) where
       local-good e a =
           let j = locals_named e a in
           let x = local_decl t e in
-          or_left (is_local t u x) (is_function t x)
+          or_left (is_local t u x) (is_declared_function t x)
           (and_both (not (is_among e.0 u.dummies)) (not (is_among e.0 (u.name ∷ [])) && (not (is_among e.0 (fortran_names t)) && not (is_text_of_any_length x.ty)))
           (not_false (is_among e.0 u.dummies) (ap (is_among e.0) dummies_are ∙ not_among-is e.0 dummy_names (λ b. dummy-no_local e.0 j.0 b j.1)))
           (and_both (not (is_among e.0 (u.name ∷ []))) (not (is_among e.0 (fortran_names t)) && not (is_text_of_any_length x.ty))
           (not_false (is_among e.0 (u.name ∷ [])) (not_among-is e.0 (u.name ∷ []) (no_unit j.0 j.1)))
           (and_both (not (is_among e.0 (fortran_names t))) (not (is_text_of_any_length x.ty))
           (not_false (is_among e.0 (fortran_names t)) (not_among-is e.0 (fortran_names t) (λ b. true≢false (sym (local-is j.0) ∙ ap is_local_name (sym j.1) ∙ fortran-no_local e.0 b))))
-          (not_false (is_text_of_any_length x.ty) (local-sized (rep_of_head t (head_of (out-Term e.1))))))))
+          (not_false (is_text_of_any_length x.ty) (local-sized (rep_of_head t (head_symbol (out-Term e.1))))))))
         where
           no_unit : (j : ℕ) → e.0 ≡ local_name j → Among e.0 (u.name ∷ []) → ⊥
           no_unit j is (inl s) = true≢false (sym (local-is j) ∙ ap is_local_name (sym is ∙ s ∙ name_is) ∙ wd.named.not_local)
           no_unit j is (inr b) = b
 
-      function-good : (f : FortranFunction) → Among f fs → declares t u None (function_decl t f) ≡ true
+      function-good : (f : FortranFunction) → Among f fs → declares t u None (called_function_decl t f) ≡ true
       function-good f a =
-          let x = function_decl t f in
+          let x = called_function_decl t f in
           let stands = (all-among (IsFunction t) f t.functions h.functions (functions_there f a)).stands in
           let sort : result_sort t.sig f.symbol ≡ Some stands.sort = ap result_of stands.there ∙ stands.result in
           let the = the-rep (rep_of t stands.sort) stands.concrete in
-          or_right (is_local t u x) (is_function t x)
+          or_right (is_local t u x) (is_declared_function t x)
           (ap (has_function_type t x.ty) (functions_named f a)
           ∙ one_type (Some x.ty) (function_type t (result_sort t.sig f.symbol)) x.ty refl
           (ap (function_type t) sort ∙ ap (type_by local_type) the ∙ ap (λ (s : Option SortId). Some (local_type (rep_of_sort t s))) (sym sort)))
@@ -259,16 +259,16 @@ module _ (t : Theory) (h : WellFormed t) where
         where
           by_side : (e : Decl) → Among e local_decls ⊎ Among e function_decls → declares t u None e ≡ true
           by_side e (inl a) = let r = map-among (local_decl t) e ls a in subst (λ (x : Decl). declares t u None x ≡ true) (sym r.2) (local-good r.0 r.1)
-          by_side e (inr a) = let r = map-among (function_decl t) e fs a in subst (λ (x : Decl). declares t u None x ≡ true) (sym r.2) (function-good r.0 r.1)
+          by_side e (inr a) = let r = map-among (called_function_decl t) e fs a in subst (λ (x : Decl). declares t u None x ≡ true) (sym r.2) (function-good r.0 r.1)
 
-      dummy-concrete : (e : List ℕ × SortId) → Among e (arguments d) → is_some (rep_of t e.1) ≡ true
+      dummy-concrete : (e : List ℕ × SortId) → Among e (dummies_of d) → is_some (rep_of t e.1) ≡ true
       dummy-concrete e a = by_side (among-split e d.inputs d.outputs a)
         where
           by_side : Among e d.inputs ⊎ Among e d.outputs → is_some (rep_of t e.1) ≡ true
-          by_side (inl b) = all-among (IsConcrete t) e.1 (sorts_in d.inputs) wd.inputs_concrete (among-map (λ (q : List ℕ × SortId). q.1) e d.inputs b)
-          by_side (inr b) = all-among (IsConcrete t) e.1 (sorts_in d.outputs) wd.outputs_concrete (among-map (λ (q : List ℕ × SortId). q.1) e d.outputs b)
+          by_side (inl b) = all-among (IsConcrete t) e.1 (entry_sorts d.inputs) wd.inputs_concrete (among-map (λ (q : List ℕ × SortId). q.1) e d.inputs b)
+          by_side (inr b) = all-among (IsConcrete t) e.1 (entry_sorts d.outputs) wd.outputs_concrete (among-map (λ (q : List ℕ × SortId). q.1) e d.outputs b)
 
-      dummy-good : (e : List ℕ × SortId) → Among e (arguments d) → declares t u (Some e) (dummy_decl t e) ≡ true
+      dummy-good : (e : List ℕ × SortId) → Among e (dummies_of d) → declares t u (Some e) (dummy_decl t e) ≡ true
       dummy-good e a = and_both (bytes_eq e.0 e.0) (have_one_type (Some (dummy_type (rep_or_double (rep_of t e.1)))) (type_by dummy_type (rep_of t e.1))) (eq_same e.0)
           (one_type (Some (dummy_type (rep_or_double (rep_of t e.1)))) (type_by dummy_type (rep_of t e.1)) (dummy_type (rep_or_double (rep_of t e.1))) refl (ap (type_by dummy_type) (the-rep (rep_of t e.1) (dummy-concrete e a))))
 
@@ -322,7 +322,7 @@ module _ (t : Theory) (h : WellFormed t) where
           longer a b c d e f g = omega arith
 
       pub declarations-good : bad_declaration t d u [] u.declarations ≡ None
-      declarations-good = ap (bad_declaration t d u []) decls-are ∙ good-dummies [] (arguments d) [] (local_decls ++ function_decls) refl refl further-good decls-differ
+      declarations-good = ap (bad_declaration t d u []) decls-are ∙ good-dummies [] (dummies_of d) [] (local_decls ++ function_decls) refl refl further-good decls-differ
 
       -- ---- targets
       declared-as : (e : Decl) → Among e (dummy_decls ++ (local_decls ++ function_decls)) → declared_type u e.name ≡ Some e.ty
@@ -343,11 +343,11 @@ module _ (t : Theory) (h : WellFormed t) where
       output-target o a s e =
           let ty = dummy_type (rep_or_double (rep_of t o.1)) in
           let there = among-right o d.inputs d.outputs a in
-          let name = among-map (λ (q : List ℕ × SortId). q.0) o (arguments d) there in
+          let name = among-map (λ (q : List ℕ × SortId). q.0) o (dummies_of d) there in
           and_both (may_be_set t d u o.0) (have_one_type (declared_type u o.0) (type_of_name t u.dummies o.0 s))
-          (or_left (is_among o.0 (names_of d.outputs)) (is_among o.0 (declared_names (further u)) && is_none (function_named t o.0)) (among-is o.0 (names_of d.outputs) (among-map (λ (q : List ℕ × SortId). q.0) o d.outputs a)))
+          (or_left (is_among o.0 (entry_names d.outputs)) (is_among o.0 (declared_names (further u)) && is_none (function_named t o.0)) (among-is o.0 (entry_names d.outputs) (among-map (λ (q : List ℕ × SortId). q.0) o d.outputs a)))
           (one_type (declared_type u o.0) (type_of_name t u.dummies o.0 s) ty
-          (declared-as (dummy_decl t o) (among-left (dummy_decl t o) dummy_decls (local_decls ++ function_decls) (among-map (dummy_decl t) o (arguments d) there)))
+          (declared-as (dummy_decl t o) (among-left (dummy_decl t o) dummy_decls (local_decls ++ function_decls) (among-map (dummy_decl t) o (dummies_of d) there)))
           (ap (λ (b : Bool). if b then type_by dummy_type (rep_of t s) else type_by local_type (rep_of t s)) (ap (is_among o.0) dummies_are ∙ among-is o.0 dummy_names name)
           ∙ ap (type_by dummy_type) (e ∙ the-rep (rep_of t o.1) (dummy-concrete o there))))
 
@@ -359,9 +359,9 @@ module _ (t : Theory) (h : WellFormed t) where
           let j = locals_named e a in
           let ty = local_type (rep_or_double (rep_of t s)) in
           let there = among-left x local_decls function_decls (among-map (local_decl t) e ls a) in
-          let typed : x.ty ≡ ty = ap (λ (o : Option SymId). local_type (rep_of_head t o)) (ap head_of (outs-App f xs)) ∙ ap (λ (o : Option SortId). local_type (rep_of_sort t o)) sort in
+          let typed : x.ty ≡ ty = ap (λ (o : Option SymId). local_type (rep_of_head t o)) (ap head_symbol (outs-App f xs)) ∙ ap (λ (o : Option SortId). local_type (rep_of_sort t o)) sort in
           and_both (may_be_set t d u n) (have_one_type (declared_type u n) (type_of_name t u.dummies n s))
-          (or_right (is_among n (names_of d.outputs)) (is_among n (declared_names (further u)) && is_none (function_named t n))
+          (or_right (is_among n (entry_names d.outputs)) (is_among n (declared_names (further u)) && is_none (function_named t n))
           (and_both (is_among n (declared_names (further u))) (is_none (function_named t n))
           (ap (λ (es : List Decl). is_among n (declared_names es)) further-is ∙ among-is n (declared_names (local_decls ++ function_decls)) (among-map (λ (y : Decl). y.name) x (local_decls ++ function_decls) there))
           (ap is_none (ap (function_named t) j.1 ∙ local-no_function j.0))))
@@ -374,4 +374,4 @@ module _ (t : Theory) (h : WellFormed t) where
       pub function-declared : (f : FortranFunction) → Among f fs → is_among f.name (declared_names (further u)) ≡ true
       function-declared f a =
           ap (λ (es : List Decl). is_among f.name (declared_names es)) further-is
-          ∙ among-is f.name (declared_names (local_decls ++ function_decls)) (among-map (λ (y : Decl). y.name) (function_decl t f) (local_decls ++ function_decls) (among-right (function_decl t f) local_decls function_decls (among-map (function_decl t) f fs a)))
+          ∙ among-is f.name (declared_names (local_decls ++ function_decls)) (among-map (λ (y : Decl). y.name) (called_function_decl t f) (local_decls ++ function_decls) (among-right (called_function_decl t f) local_decls function_decls (among-map (called_function_decl t) f fs a)))

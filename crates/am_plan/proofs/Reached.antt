@@ -18,6 +18,7 @@ use Rattle.am_term.specs.Sorting.{fits_place, fit_places, result_at, sort_of, so
 use Rattle.am_term.specs.Symbols.{is_computable}
 use Rattle.am_term.proofs.Tests.{and_left, and_right, or_cases, or_left, or_right}
 use Rattle.am_clause.proofs.Members.{any-distinct}
+use Rattle.am_clause.specs.Final.{is_computable_symbol}
 use Rattle.am_theory.specs.declared.theory.Routine.{Routine}
 use Rattle.am_theory.specs.declared.theory.FortranFunction.{FortranFunction}
 use Rattle.am_theory.specs.declared.theory.LiteralDecl.{LiteralDecl}
@@ -25,9 +26,9 @@ use Rattle.am_theory.specs.declared.theory.Theory.{Theory}
 use Rattle.am_theory.specs.Facts.{WellFormed}
 use Rattle.am_plan.specs.declared.call.Callee.{Callee}
 use Rattle.am_plan.specs.declared.call.Callee.TheVariants as callee
-use Rattle.am_plan.specs.Answers.{is_computable_symbol, ready_step, is_ready}
-use Rattle.am_plan.specs.Calls.{PlannedCall, terms_below, completed, has_symbol, or_else, routine_from, function_from, callee_of, call_with, listed, same_call, asked, calls, outputs_at, value_at, made_at, made_by, made}
-use Rattle.am_theory.specs.Lookups.{literal_of}
+use Rattle.am_plan.specs.Answers.{ready_step, is_ready}
+use Rattle.am_plan.specs.Calls.{PlannedCall, terms_below, completed, has_symbol, first_there, routine_from, function_from, callee_of, call_with, listed_option, same_call, asks_for, calls, outputs_made, value_made, made_at, made_by, made}
+use Rattle.am_theory.specs.Lookups.{literal_declared}
 use Rattle.am_plan.proofs.Asking.{below-Var, below-In, below-App, call_of-Var, call_of-In, call_of-App, own, same_call-refl, same_call-sound}
 use Rattle.am_plan.proofs.Membership.{Among, among-left, among-right, among-split, among-map, among-flat, flat-among}
 
@@ -193,9 +194,9 @@ args-among [] = λ z a m n. absurd m
 args-among (x ∷ xs) = args-more x xs (args-below x) (args-among xs)
 
 -- ---- calls
-calls-any : (t : Theory) (answer : List Term) (p : PlannedCall → Bool) → list_any p (calls t answer) ≡ list_any p (asked t answer)
+calls-any : (t : Theory) (answer : List Term) (p : PlannedCall → Bool) → list_any p (calls t answer) ≡ list_any p (asks_for t answer)
 unfolding calls
-calls-any t answer p = any-distinct same_call same_call-sound same_call-refl p (asked t answer)
+calls-any t answer p = any-distinct same_call same_call-sound same_call-refl p (asks_for t answer)
 
 among-true : (c : PlannedCall) (cs : List PlannedCall) → Among c cs → list_any (same_call c) cs ≡ true
 among-true c [] m = absurd m
@@ -214,11 +215,11 @@ true-among c (x ∷ xs) e = by_side (or_cases (same_call c x) (list_any (same_ca
     by_side (inl is) later = inl (same_call-sound c x is)
     by_side (inr m) later = inr (later m)
 
-pub asked-called : (t : Theory) (answer : List Term) (c : PlannedCall) → Among c (asked t answer) → Among c (calls t answer)
-asked-called t answer c m = true-among c (calls t answer) (calls-any t answer (same_call c) ∙ among-true c (asked t answer) m)
+pub asked-called : (t : Theory) (answer : List Term) (c : PlannedCall) → Among c (asks_for t answer) → Among c (calls t answer)
+asked-called t answer c m = true-among c (calls t answer) (calls-any t answer (same_call c) ∙ among-true c (asks_for t answer) m)
 
-pub called-asked : (t : Theory) (answer : List Term) (c : PlannedCall) → Among c (calls t answer) → Among c (asked t answer)
-called-asked t answer c m = true-among c (asked t answer) (sym (calls-any t answer (same_call c)) ∙ among-true c (calls t answer) m)
+pub called-asked : (t : Theory) (answer : List Term) (c : PlannedCall) → Among c (calls t answer) → Among c (asks_for t answer)
+called-asked t answer c m = true-among c (asks_for t answer) (sym (calls-any t answer (same_call c)) ∙ among-true c (calls t answer) m)
 
 -- a call is that of a term that is gone through
 pub record IsCallOf (t : Theory) (answer : List Term) (c : PlannedCall) : Type 0 where
@@ -228,14 +229,14 @@ pub record IsCallOf (t : Theory) (answer : List Term) (c : PlannedCall) : Type 0
 
 own-call : (t : Theory) (answer : List Term) (c : PlannedCall) (z : Term) → Among z (flat_map completed answer) → Among c (own t z) → IsCallOf t answer c
 own-call t answer c = term_cases (λ z. Among z (flat_map completed answer) → Among c (own t z) → IsCallOf t answer c)
-    (λ n s m o. absurd (subst (λ (y : Option PlannedCall). Among c (listed y)) (call_of-Var t n s) o))
-    (λ k m o. absurd (subst (λ (y : Option PlannedCall). Among c (listed y)) (call_of-In t k) o))
-    (λ f args m o. by_callee f args m (callee_of t f) refl (subst (λ (y : Option PlannedCall). Among c (listed y)) (call_of-App t f args) o))
+    (λ n s m o. absurd (subst (λ (y : Option PlannedCall). Among c (listed_option y)) (call_of-Var t n s) o))
+    (λ k m o. absurd (subst (λ (y : Option PlannedCall). Among c (listed_option y)) (call_of-In t k) o))
+    (λ f args m o. by_callee f args m (callee_of t f) refl (subst (λ (y : Option PlannedCall). Among c (listed_option y)) (call_of-App t f args) o))
   where
-    by_callee : (f : SymId) (args : List Term) → Among (App f args) (flat_map completed answer) → (k : Option Callee) → callee_of t f ≡ k → Among c (listed (option_map (call_with args) (callee_of t f))) → IsCallOf t answer c
-    by_callee f args m None e o = absurd (subst (λ (y : Option Callee). Among c (listed (option_map (call_with args) y))) e o)
+    by_callee : (f : SymId) (args : List Term) → Among (App f args) (flat_map completed answer) → (k : Option Callee) → callee_of t f ≡ k → Among c (listed_option (option_map (call_with args) (callee_of t f))) → IsCallOf t answer c
+    by_callee f args m None e o = absurd (subst (λ (y : Option Callee). Among c (listed_option (option_map (call_with args) y))) e o)
     by_callee f args m (Some k) e o =
-        let is : c ≡ call_with args k = one-of c (call_with args k) (subst (λ (y : Option Callee). Among c (listed (option_map (call_with args) y))) e o) in
+        let is : c ≡ call_with args k = one-of c (call_with args k) (subst (λ (y : Option Callee). Among c (listed_option (option_map (call_with args) y))) e o) in
         record {
           symbol = f;
           there = subst (λ (x : PlannedCall). Among (App f x.args) (flat_map completed answer)) (sym is) m;
@@ -309,10 +310,10 @@ pub callee-at : (t : Theory) (f : SymId) (c : Callee) → callee_of t f ≡ Some
 unfolding callee_of
 callee-at t f c e = by_routine (routine_from 0 f t.routines) refl e
   where
-    by_routine : (o : Option Callee) → routine_from 0 f t.routines ≡ o → or_else (routine_from 0 f t.routines) (function_from 0 f t.functions) ≡ Some c → RoutineAt f 0 t.routines c ⊎ FunctionAt f 0 t.functions c
-    by_routine None h i = inr (function-at f 0 t.functions c (sym (ap (λ (o : Option Callee). or_else o (function_from 0 f t.functions)) h) ∙ i))
+    by_routine : (o : Option Callee) → routine_from 0 f t.routines ≡ o → first_there (routine_from 0 f t.routines) (function_from 0 f t.functions) ≡ Some c → RoutineAt f 0 t.routines c ⊎ FunctionAt f 0 t.functions c
+    by_routine None h i = inr (function-at f 0 t.functions c (sym (ap (λ (o : Option Callee). first_there o (function_from 0 f t.functions)) h) ∙ i))
     by_routine (Some x) h i =
-        let j : Some x ≡ Some c = sym (ap (λ (o : Option Callee). or_else o (function_from 0 f t.functions)) h) ∙ i in
+        let j : Some x ≡ Some c = sym (ap (λ (o : Option Callee). first_there o (function_from 0 f t.functions)) h) ∙ i in
         inl (routine-at f 0 t.routines c (h ∙ j))
 
 -- ---- what a call makes
@@ -323,11 +324,11 @@ made-has t f args c e = by_kind (callee-at t f c e)
     by_kind (inl r) =
         let is : c ≡ callee.Routine r.index = r.is ∙ ap callee.Routine (omega arith) in
         subst (λ (k : Callee). Among (App f args) (made_at t args k)) (sym is)
-        (subst (λ (o : Option Routine). Among (App f args) (outputs_at args o)) (sym r.there) (among-map (λ (g : SymId). App g args) f r.routine.outputs r.has))
+        (subst (λ (o : Option Routine). Among (App f args) (outputs_made args o)) (sym r.there) (among-map (λ (g : SymId). App g args) f r.routine.outputs r.has))
     by_kind (inr g) =
         let is : c ≡ callee.Function g.index = g.is ∙ ap callee.Function (omega arith) in
         subst (λ (k : Callee). Among (App f args) (made_at t args k)) (sym is)
-        (subst (λ (o : Option FortranFunction). Among (App f args) (value_at args o)) (sym g.there) (inl (ap (λ (s : SymId). App s args) g.has)))
+        (subst (λ (o : Option FortranFunction). Among (App f args) (value_made args o)) (sym g.there) (inl (ap (λ (s : SymId). App s args) g.has)))
 
 -- ---- a symbol that a program can compute is a literal's, or there is something to call
 contained : {A : Type 0} (x : A) (xs : List A) → Contains xs x → Among x xs
@@ -361,11 +362,11 @@ function-some f k g (x ∷ xs) (inr m) h = either (f.0 == x.symbol.0) (function-
     either true g = refl
     either false g = g
 
-some-left : {A : Type 0} (x y : Option A) → is_some x ≡ true → is_some (or_else x y) ≡ true
+some-left : {A : Type 0} (x y : Option A) → is_some x ≡ true → is_some (first_there x y) ≡ true
 some-left {A = A} None y e = absurd (true≢false (sym e))
 some-left {A = A} (Some z) y e = refl
 
-some-right : {A : Type 0} (x y : Option A) → is_some y ≡ true → is_some (or_else x y) ≡ true
+some-right : {A : Type 0} (x y : Option A) → is_some y ≡ true → is_some (first_there x y) ≡ true
 some-right {A = A} None y e = e
 some-right {A = A} (Some z) y e = refl
 
@@ -382,7 +383,7 @@ some-value : {A : Type 0} (o : Option A) → is_some o ≡ true → (x : A) × (
 some-value {A = A} None e = absurd (true≢false (sym e))
 some-value {A = A} (Some x) e = (x, refl)
 
-module _ (t : Theory) (h : WellFormed t) (f : SymId) (y : Symbol) (there : slice_get t.sig.symbols f.0 ≡ Some y) (no_literal : literal_of t f ≡ None) where
+module _ (t : Theory) (h : WellFormed t) (f : SymId) (y : Symbol) (there : slice_get t.sig.symbols f.0 ≡ Some y) (no_literal : literal_declared t f ≡ None) where
   by_output : y.kind ≡ kind.Output → is_some (callee_of t f) ≡ true
   unfolding callee_of
   by_output e =
@@ -414,12 +415,12 @@ module _ (t : Theory) (h : WellFormed t) (f : SymId) (y : Symbol) (there : slice
   callee-there e = some-value (callee_of t f) (by_kind y.kind refl e)
 
 -- what is gone through and is no literal is made
-pub made-there : (t : Theory) (ins : List SortId) (answer : List Term) (f : SymId) (args : List Term) → WellFormed t → Among (App f args) (flat_map completed answer) → Good t ins (App f args) → literal_of t f ≡ None
+pub made-there : (t : Theory) (ins : List SortId) (answer : List Term) (f : SymId) (args : List Term) → WellFormed t → Among (App f args) (flat_map completed answer) → Good t ins (App f args) → literal_declared t f ≡ None
     → Among (App f args) (made t answer)
 made-there t ins answer f args h m g no_literal =
     let a = applied t ins f args g in
     let c = callee-there t h f a.symbol a.there no_literal a.computable in
     let call = call_with args c.0 in
-    let own_call : Among call (own t (App f args)) = subst (λ (o : Option PlannedCall). Among call (listed o)) (sym (call_of-App t f args ∙ ap (option_map (call_with args)) c.1)) (inl refl) in
-    let in_asked : Among call (asked t answer) = among-flat (own t) (App f args) call (flat_map completed answer) m own_call in
+    let own_call : Among call (own t (App f args)) = subst (λ (o : Option PlannedCall). Among call (listed_option o)) (sym (call_of-App t f args ∙ ap (option_map (call_with args)) c.1)) (inl refl) in
+    let in_asked : Among call (asks_for t answer) = among-flat (own t) (App f args) call (flat_map completed answer) m own_call in
     among-flat (made_by t) call (App f args) (calls t answer) (asked-called t answer call in_asked) (made-has t f args c.0 c.1)

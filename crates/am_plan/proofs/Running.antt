@@ -15,7 +15,7 @@ use Rattle.am_theory.specs.declared.theory.Theory.{Theory}
 use Rattle.am_theory.specs.Lookups.{result_sort, argument_sorts}
 use Rattle.am_theory.specs.Facts.{WellFormed}
 use Rattle.am_diagram.specs.declared.diagram.Diagram.{Diagram}
-use Rattle.am_diagram.specs.Listed.{names_of, sorts_in}
+use Rattle.am_diagram.specs.Listed.{entry_names, entry_sorts}
 use Rattle.am_fortran.specs.declared.statement.Operand.{Operand}
 use Rattle.am_fortran.specs.declared.statement.Statement.{Statement}
 use Rattle.am_fortran.specs.declared.statement.Statement.TheVariants.{Call, Apply}
@@ -23,11 +23,11 @@ use Rattle.am_fortran.specs.declared.unit.Unit.{Unit as Subroutine}
 use Rattle.am_exec.specs.Lawful.{further}
 use Rattle.am_exec.specs.States.{Store, inputs_held}
 use Rattle.am_exec.specs.ItemFaults.{is_target, declared_names, lacks_dummy}
-use Rattle.am_exec.specs.Terms.{with_term, terms_held}
+use Rattle.am_exec.specs.Terms.{with_held_term, terms_held}
 use Rattle.am_plan.specs.declared.call.Callee.{Callee}
 use Rattle.am_plan.specs.declared.call.Callee.TheVariants as callee
-use Rattle.am_plan.specs.Calls.{PlannedCall, call_with, outputs_at, value_at, made_by}
-use Rattle.am_plan.specs.Names.{Named, name_of}
+use Rattle.am_plan.specs.Calls.{PlannedCall, call_with, outputs_made, value_made, made_by}
+use Rattle.am_plan.specs.Names.{Named, name_of_term}
 use Rattle.am_plan.specs.Plan.{operand_for, routine_call, function_call, first_name, statement_of, is_set, copy_to, copies}
 use Rattle.am_plan.proofs.Membership.{Among, Different, among-all, all-among, among-map, among-left, among-right, different-left, different-right, different-apart}
 use Rattle.am_plan.proofs.Holding.{names_in, held-there, inputs-among}
@@ -45,7 +45,7 @@ CalleeFits t ins args (callee.Function k) = (g : FortranFunction) × (slice_get 
 -- a call whose arguments are inputs, literals, or terms that are done
 pub record IsReady (t : Theory) (d : Diagram) (done : List Term) (c : PlannedCall) : Type 0 where
   pub available : AllByRecursion (Available t d done) c.args
-  pub fit : CalleeFits t (sorts_in d.inputs) c.args c.callee
+  pub fit : CalleeFits t (entry_sorts d.inputs) c.args c.callee
   pub small : sum_by nodes c.args < 10000
 
 -- each call's arguments are done before it
@@ -55,7 +55,7 @@ AreReady t d done (c ∷ cs) = IsReady t d done c × AreReady t d (done ++ made_
 
 module _ (t : Theory) (h : WellFormed t) (d : Diagram) (u : Subroutine) (lacks : lacks_dummy u ≡ false) (names : List Named) where
   abbrev name : Term → List ℕ
-  name = name_of names
+  name = name_of_term names
 
   abbrev op : Term → Operand
   op = operand_for t d names
@@ -93,7 +93,7 @@ module _ (t : Theory) (h : WellFormed t) (d : Diagram) (u : Subroutine) (lacks :
 
   -- one call
   module _ (done args : List Term) (available : AllByRecursion (Available t d done) args) (small : sum_by nodes args < 10000) where
-    module _ (k : ℕ) (r : Routine) (at : slice_get t.routines k ≡ Some r) (fit : fit_places t.sig (sorts_of t.sig (sorts_in d.inputs) args) r.inputs ≡ true) where
+    module _ (k : ℕ) (r : Routine) (at : slice_get t.routines k ≡ Some r) (fit : fit_places t.sig (sorts_of t.sig (entry_sorts d.inputs) args) r.inputs ≡ true) where
       abbrev routine : PlannedCall
       routine = call_with args (callee.Routine k)
 
@@ -101,7 +101,7 @@ module _ (t : Theory) (h : WellFormed t) (d : Diagram) (u : Subroutine) (lacks :
       made = map (λ (f : SymId). App f args) r.outputs
 
       made-is : made_by t routine ≡ made
-      made-is = ap (outputs_at args) at
+      made-is = ap (outputs_made args) at
 
       statement : statement_of t d names routine ≡ Call r.name (map op args ++ targets_of name made) ∷ []
       statement = ap (routine_call t d names routine) at ∙ ap (λ (ys : List Term). Call r.name (map op args ++ targets_of name ys) ∷ []) made-is
@@ -118,7 +118,7 @@ module _ (t : Theory) (h : WellFormed t) (d : Diagram) (u : Subroutine) (lacks :
           (subst (λ (ys : List Term). Goes t d u (after done) (Call r.name (map op args ++ targets_of name made) ∷ []) (after done ++ pairs name ys)) (sym made-is)
           (goes-one t d u (after done) (after done ++ pairs name made) (Call r.name (map op args ++ targets_of name made)) puts.passes puts.put_is))
 
-    module _ (k : ℕ) (g : FortranFunction) (at : slice_get t.functions k ≡ Some g) (fit : fit_places t.sig (sorts_of t.sig (sorts_in d.inputs) args) (argument_sorts t.sig g.symbol) ≡ true) where
+    module _ (k : ℕ) (g : FortranFunction) (at : slice_get t.functions k ≡ Some g) (fit : fit_places t.sig (sorts_of t.sig (entry_sorts d.inputs) args) (argument_sorts t.sig g.symbol) ≡ true) where
       abbrev function : PlannedCall
       function = call_with args (callee.Function k)
 
@@ -126,7 +126,7 @@ module _ (t : Theory) (h : WellFormed t) (d : Diagram) (u : Subroutine) (lacks :
       value = App g.symbol args
 
       value-is : made_by t function ≡ value ∷ []
-      value-is = ap (value_at args) at
+      value-is = ap (value_made args) at
 
       application : statement_of t d names function ≡ Apply (name value) g.name (map op args) ∷ []
       application = ap (function_call t d names function) at ∙ ap (λ (ys : List Term). Apply (first_name names ys) g.name (map op args) ∷ []) value-is
@@ -143,7 +143,7 @@ module _ (t : Theory) (h : WellFormed t) (d : Diagram) (u : Subroutine) (lacks :
           (subst (λ (ys : List Term). Goes t d u (after done) (Apply (name value) g.name (map op args) ∷ []) (after done ++ pairs name ys)) (sym value-is)
           (goes-one t d u (after done) (after done ++ pairs name (value ∷ [])) (Apply (name value) g.name (map op args)) puts.passes puts.put_is))
 
-    call-goes : (k : Callee) → CalleeFits t (sorts_in d.inputs) args k → MayHold (made_by t (call_with args k)) → AreDeclared (call_with args k ∷ [])
+    call-goes : (k : Callee) → CalleeFits t (entry_sorts d.inputs) args k → MayHold (made_by t (call_with args k)) → AreDeclared (call_with args k ∷ [])
         → Different (names_in (after done ++ pairs name (made_by t (call_with args k))))
         → Goes t d u (after done) (statement_of t d names (call_with args k)) (after done ++ pairs name (made_by t (call_with args k)))
     call-goes (callee.Routine k) fit targets functions differ = routine-goes k fit.0 fit.1 fit.2 targets differ
@@ -215,10 +215,10 @@ module _ (t : Theory) (h : WellFormed t) (d : Diagram) (u : Subroutine) (lacks :
   AreHeld store (o ∷ os) [] = ⊥
   AreHeld store (o ∷ os) (x ∷ xs) = Among (o.0, x) store × AreHeld store os xs
 
-  pub ends-held : (store : Store) (os : List (List ℕ × SortId)) (xs : List Term) → Different (names_in store) → AreHeld store os xs → terms_held store (names_of os) ≡ Some xs
+  pub ends-held : (store : Store) (os : List (List ℕ × SortId)) (xs : List Term) → Different (names_in store) → AreHeld store os xs → terms_held store (entry_names os) ≡ Some xs
   ends-held store [] [] differ held = refl
   ends-held store [] (x ∷ xs) differ held = absurd held
   ends-held store (o ∷ os) [] differ held = absurd held
   ends-held store (o ∷ os) (x ∷ xs) differ held =
-      ap (λ (q : Option Term). with_term q (terms_held store (names_of os))) (held-there store o.0 x differ held.0)
-      ∙ ap (with_term (Some x)) (ends-held store os xs differ held.1)
+      ap (λ (q : Option Term). with_held_term q (terms_held store (entry_names os))) (held-there store o.0 x differ held.0)
+      ∙ ap (with_held_term (Some x)) (ends-held store os xs differ held.1)

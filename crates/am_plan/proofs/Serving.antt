@@ -13,10 +13,11 @@ use Rattle.am_term.specs.Fold.{fold-Var, fold-In, fold-App}
 use Rattle.am_term.specs.Sorting.{term_fits}
 use Rattle.am_term.specs.Weight.{nodes}
 use Rattle.am_term.proofs.Tests.{and_left, and_right, and_both}
+use Rattle.am_clause.specs.Final.{is_computable_symbol}
 use Rattle.am_theory.specs.declared.theory.Theory.{Theory}
 use Rattle.am_diagram.specs.declared.diagram.Diagram.{Diagram}
-use Rattle.am_diagram.specs.Listed.{sorts_in}
-use Rattle.am_plan.specs.Answers.{is_ready, ready_step, is_computable_symbol, weight_limit, AllServe, IsAnswerFor}
+use Rattle.am_diagram.specs.Listed.{entry_sorts}
+use Rattle.am_plan.specs.Answers.{is_ready, ready_step, weight_limit, AllServe, IsAnswerFor}
 use Rattle.am_plan.specs.AnswerTests.{is_server, are_servers}
 
 -- ---- answers
@@ -27,32 +28,32 @@ within m n e = grind (arith, nat_tests)
 is-within : (m n : ℕ) → m ≤ n → nat_le m n ≡ true
 is-within m n h = grind (arith, nat_tests)
 
-servers-serve : (t : Theory) (d : Diagram) (os : List (List ℕ × SortId)) (xs : List Term) → are_servers t.sig (sorts_in d.inputs) os xs ≡ true → AllServe t d os xs
+servers-serve : (t : Theory) (d : Diagram) (os : List (List ℕ × SortId)) (xs : List Term) → are_servers t.sig (entry_sorts d.inputs) os xs ≡ true → AllServe t d os xs
 servers-serve t d [] [] e = tt
 servers-serve t d [] (x ∷ xs) e = absurd (true≢false (sym e))
 servers-serve t d (o ∷ os) [] e = absurd (true≢false (sym e))
 servers-serve t d (o ∷ os) (x ∷ xs) e =
-    let fitting = term_fits t.sig (sorts_in d.inputs) x o.1 in
+    let fitting = term_fits t.sig (entry_sorts d.inputs) x o.1 in
     let small = nat_le (nodes x) weight_limit in
-    let one = and_left (is_server t.sig (sorts_in d.inputs) o.1 x) (are_servers t.sig (sorts_in d.inputs) os xs) e in
+    let one = and_left (is_server t.sig (entry_sorts d.inputs) o.1 x) (are_servers t.sig (entry_sorts d.inputs) os xs) e in
     let two = and_right fitting (is_ready t.sig x && small) one in (
       record { sorted = and_left fitting (is_ready t.sig x && small) one; ready = and_left (is_ready t.sig x) small two; small = within (nodes x) weight_limit (and_right (is_ready t.sig x) small two) },
-      servers-serve t d os xs (and_right (is_server t.sig (sorts_in d.inputs) o.1 x) (are_servers t.sig (sorts_in d.inputs) os xs) e),
+      servers-serve t d os xs (and_right (is_server t.sig (entry_sorts d.inputs) o.1 x) (are_servers t.sig (entry_sorts d.inputs) os xs) e),
     )
 
-serving-servers : (t : Theory) (d : Diagram) (os : List (List ℕ × SortId)) (xs : List Term) → AllServe t d os xs → are_servers t.sig (sorts_in d.inputs) os xs ≡ true
+serving-servers : (t : Theory) (d : Diagram) (os : List (List ℕ × SortId)) (xs : List Term) → AllServe t d os xs → are_servers t.sig (entry_sorts d.inputs) os xs ≡ true
 serving-servers t d [] [] s = refl
 serving-servers t d [] (x ∷ xs) s = absurd s
 serving-servers t d (o ∷ os) [] s = absurd s
 serving-servers t d (o ∷ os) (x ∷ xs) s =
     let small = nat_le (nodes x) weight_limit in
     let two = and_both (is_ready t.sig x) small s.0.ready (is-within (nodes x) weight_limit s.0.small) in
-    and_both (is_server t.sig (sorts_in d.inputs) o.1 x) (are_servers t.sig (sorts_in d.inputs) os xs) (and_both (term_fits t.sig (sorts_in d.inputs) x o.1) (is_ready t.sig x && small) s.0.sorted two) (serving-servers t d os xs s.1)
+    and_both (is_server t.sig (entry_sorts d.inputs) o.1 x) (are_servers t.sig (entry_sorts d.inputs) os xs) (and_both (term_fits t.sig (entry_sorts d.inputs) x o.1) (is_ready t.sig x && small) s.0.sorted two) (serving-servers t d os xs s.1)
 
 -- ---- the test
-pub answers-told : (t : Theory) (d : Diagram) (answer : List Term) (ins : List SortId) (b : Bool) → ins ≡ sorts_in d.inputs → b ≡ are_servers t.sig ins d.outputs answer → IsTrue b ↔ IsAnswerFor t d answer
+pub answers-told : (t : Theory) (d : Diagram) (answer : List Term) (ins : List SortId) (b : Bool) → ins ≡ entry_sorts d.inputs → b ≡ are_servers t.sig ins d.outputs answer → IsTrue b ↔ IsAnswerFor t d answer
 answers-told t d answer ins b is e =
-    let h : b ≡ are_servers t.sig (sorts_in d.inputs) d.outputs answer = e ∙ ap (λ (ss : List SortId). are_servers t.sig ss d.outputs answer) is in
+    let h : b ≡ are_servers t.sig (entry_sorts d.inputs) d.outputs answer = e ∙ ap (λ (ss : List SortId). are_servers t.sig ss d.outputs answer) is in
     (λ k. servers-serve t d d.outputs answer (sym h ∙ k), λ k. h ∙ serving-servers t d d.outputs answer k)
 
 -- ---- what a program can compute

@@ -16,19 +16,19 @@ use Rattle.am_theory.specs.declared.theory.LitValue.{LitValue}
 use Rattle.am_theory.specs.declared.theory.LitValue.TheVariants as value
 use Rattle.am_theory.specs.declared.theory.LiteralDecl.{LiteralDecl}
 use Rattle.am_theory.specs.declared.theory.Theory.{Theory}
-use Rattle.am_theory.specs.Lookups.{literal_of, result_of, result_sort}
+use Rattle.am_theory.specs.Lookups.{literal_declared, result_of, result_sort}
 use Rattle.am_theory.specs.Facts.{WellFormed, Stands as SymbolStands, IsLiteral}
 use Rattle.am_theory.specs.Faults.{same_value}
 use Rattle.am_diagram.specs.declared.diagram.Diagram.{Diagram}
-use Rattle.am_diagram.specs.Listed.{names_of}
+use Rattle.am_diagram.specs.Listed.{entry_names}
 use Rattle.am_fortran.specs.declared.statement.Operand.{Operand}
 use Rattle.am_fortran.specs.declared.statement.Operand.TheVariants as operand
-use Rattle.am_exec.specs.Literals.{writes, sort_fits, literal_at}
+use Rattle.am_exec.specs.Literals.{writes, sort_fits, literal_written}
 use Rattle.am_exec.specs.States.{Store, term_held, literal_term, operand_term, listed_term, operand_terms}
 use Rattle.am_exec.specs.Effects.{term_sort}
-use Rattle.am_exec.specs.ItemFaults.{unset_name, or_later, first_unset, fits_operand, fit_operands}
+use Rattle.am_exec.specs.ItemFaults.{unset_name, or_later, first_unset, operand_fits_place, fit_operands}
 use Rattle.am_exec.proofs.Held.{eq_same}
-use Rattle.am_plan.specs.Names.{Named, name_of}
+use Rattle.am_plan.specs.Names.{Named, name_of_term}
 use Rattle.am_plan.specs.Plan.{written_value, literal_or, operand_at, operand_for}
 use Rattle.am_plan.proofs.Membership.{Among, Different}
 use Rattle.am_plan.proofs.Holding.{names_in, held-there}
@@ -104,7 +104,7 @@ module _ (t : Theory) (h : WellFormed t) (ins : List SortId) where
   found-symbol p l m e is = ap (option_map (λ (x : LiteralDecl). x.symbol)) e ∙ ap (λ (x : LiteralDecl). Some x.symbol) (sym is)
 
   -- the value of a literal stands for its symbol wherever the symbol fits
-  pub literal-at : (index : ℕ) (l : LiteralDecl) (place : SortId) → slice_get t.literals index ≡ Some l → term_fits t.sig ins (App l.symbol []) place ≡ true → literal_at t place (written_value l.value) ≡ Some l.symbol
+  pub literal-at : (index : ℕ) (l : LiteralDecl) (place : SortId) → slice_get t.literals index ≡ Some l → term_fits t.sig ins (App l.symbol []) place ≡ true → literal_written t place (written_value l.value) ≡ Some l.symbol
   literal-at index l place at e =
       let stands = (all-index (IsLiteral t) t.literals index l h.literals at).stands in
       let fit : fits t.sig stands.sort place ≡ true = sym (ap (λ (s : Option SortId). fits_place t.sig s place) (literal-sorted l stands)) ∙ e in
@@ -125,11 +125,11 @@ module _ (t : Theory) (h : WellFormed t) (ins : List SortId) where
   literal-set store (value.Int z) = refl
   literal-set store (value.Text x) = refl
 
-  literal-fits : (store : Store) (v : LitValue) (place : SortId) (f : SymId) → literal_at t place (written_value v) ≡ Some f → fits_operand t ins store place (written_value v) ≡ true
+  literal-fits : (store : Store) (v : LitValue) (place : SortId) (f : SymId) → literal_written t place (written_value v) ≡ Some f → operand_fits_place t ins store place (written_value v) ≡ true
   literal-fits store (value.Int z) place f e = ap is_some e
   literal-fits store (value.Text x) place f e = ap is_some e
 
-  literal-stands : (store : Store) (v : LitValue) (place : SortId) (f : SymId) → literal_at t place (written_value v) ≡ Some f → operand_term t store place (written_value v) ≡ Some (App f [])
+  literal-stands : (store : Store) (v : LitValue) (place : SortId) (f : SymId) → literal_written t place (written_value v) ≡ Some f → operand_term t store place (written_value v) ≡ Some (App f [])
   literal-stands store (value.Int z) place f e = ap (option_map literal_term) e
   literal-stands store (value.Text x) place f e = ap (option_map literal_term) e
 
@@ -138,9 +138,9 @@ module _ (t : Theory) (h : WellFormed t) (ins : List SortId) where
     operand-set o x (inl n) = ap (unset_name store) n.is ∙ ap (λ (y : Option Term). if is_some y then None else Some n.named) n.held
     operand-set o x (inr l) = ap (unset_name store) l.is ∙ literal-set store l.decl.value
 
-    pub operand-fits : (o : Operand) (x : Term) (place : SortId) → StandsFor t store o x → term_fits t.sig ins x place ≡ true → fits_operand t ins store place o ≡ true
-    operand-fits o x place (inl n) e = ap (fits_operand t ins store place) n.is ∙ ap (λ (y : Option Term). fits_place t.sig (term_sort t ins y) place) n.held ∙ e
-    operand-fits o x place (inr l) e = ap (fits_operand t ins store place) l.is ∙ literal-fits store l.decl.value place l.decl.symbol (literal-at l.index l.decl place l.there (sym (ap (λ (y : Term). term_fits t.sig ins y place) l.constant) ∙ e))
+    pub operand-fits : (o : Operand) (x : Term) (place : SortId) → StandsFor t store o x → term_fits t.sig ins x place ≡ true → operand_fits_place t ins store place o ≡ true
+    operand-fits o x place (inl n) e = ap (operand_fits_place t ins store place) n.is ∙ ap (λ (y : Option Term). fits_place t.sig (term_sort t ins y) place) n.held ∙ e
+    operand-fits o x place (inr l) e = ap (operand_fits_place t ins store place) l.is ∙ literal-fits store l.decl.value place l.decl.symbol (literal-at l.index l.decl place l.there (sym (ap (λ (y : Term). term_fits t.sig ins y place) l.constant) ∙ e))
 
     pub operand-term : (o : Operand) (x : Term) (place : SortId) → StandsFor t store o x → term_fits t.sig ins x place ≡ true → operand_term t store place o ≡ Some x
     operand-term o x place (inl n) e = ap (operand_term t store place) n.is ∙ n.held
@@ -159,7 +159,7 @@ module _ (t : Theory) (h : WellFormed t) (ins : List SortId) where
       operands-fit (x ∷ xs) (s ∷ ss) g e =
           let one = term_fits t.sig ins x s in
           let rest = fit_places t.sig (sorts_of t.sig ins xs) ss in
-          and_both (fits_operand t ins store s (op x)) (fit_operands t ins store ss (map op xs)) (operand-fits (op x) x s g.0 (and_left one rest e)) (operands-fit xs ss g.1 (and_right one rest e))
+          and_both (operand_fits_place t ins store s (op x)) (fit_operands t ins store ss (map op xs)) (operand-fits (op x) x s g.0 (and_left one rest e)) (operands-fit xs ss g.1 (and_right one rest e))
 
       pub operands-are : (xs : List Term) (ss : List SortId) → AllByRecursion (λ (x : Term). StandsFor t store (op x) x) xs → fit_places t.sig (sorts_of t.sig ins xs) ss ≡ true → operand_terms t store ss (map op xs) ≡ xs
       operands-are [] [] g e = refl
@@ -183,7 +183,7 @@ pub record IsConstant (t : Theory) (x : Term) : Type 0 where
   pub decl : LiteralDecl
   pub index : ℕ
   pub there : slice_get t.literals index ≡ Some decl
-  pub found : literal_of t decl.symbol ≡ Some decl
+  pub found : literal_declared t decl.symbol ≡ Some decl
   pub is : x ≡ App decl.symbol []
 
 -- made by a call: one of the terms that are done
@@ -191,13 +191,13 @@ pub record IsDone (t : Theory) (done : List Term) (x : Term) : Type 0 where
   pub symbol : SymId
   pub args : List Term
   pub is : x ≡ App symbol args
-  pub no_literal : literal_of t symbol ≡ None
+  pub no_literal : literal_declared t symbol ≡ None
   pub there : Among x done
 
 abbrev pub Available : Theory → Diagram → List Term → Term → Type 0
 Available t d done x = IsInput d x ⊎ (IsConstant t x ⊎ IsDone t done x)
 
-name-at : (ds : List (List ℕ × SortId)) (k : ℕ) (e : List ℕ × SortId) → slice_get ds k ≡ Some e → slice_index_or (names_of ds) k [] ≡ e.0
+name-at : (ds : List (List ℕ × SortId)) (k : ℕ) (e : List ℕ × SortId) → slice_get ds k ≡ Some e → slice_index_or (entry_names ds) k [] ≡ e.0
 name-at [] k e at = absurd cc
 name-at (x ∷ ds) zero e at = let same : x ≡ e = cc in ap (λ (q : List ℕ × SortId). q.0) same
 name-at (x ∷ ds) (suc k) e at = name-at ds k e at
@@ -207,18 +207,18 @@ module _ (t : Theory) (d : Diagram) (names : List Named) where
   unfolding operand_for
   operand-input k e at = ap (operand_at t d names (In k)) (outs-In k) ∙ ap operand.Name (name-at d.inputs k e at)
 
-  pub operand-app : (f : SymId) (args : List Term) → operand_for t d names (App f args) ≡ literal_or (operand.Name (name_of names (App f args))) (literal_of t f)
+  pub operand-app : (f : SymId) (args : List Term) → operand_for t d names (App f args) ≡ literal_or (operand.Name (name_of_term names (App f args))) (literal_declared t f)
   unfolding operand_for
   operand-app f args = ap (operand_at t d names (App f args)) (outs-App f args)
 
   -- an available term's operand stands for it, where the store has the inputs and the terms that are done
   pub operand-stands : (store : Store) (done : List Term) (x : Term) → Different (names_in store)
       → ((k : ℕ) (e : List ℕ × SortId) → slice_get d.inputs k ≡ Some e → Among (e.0, In k) store)
-      → ((y : Term) → Among y done → Among (name_of names y, y) store)
+      → ((y : Term) → Among y done → Among (name_of_term names y, y) store)
       → Available t d done x → StandsFor t store (operand_for t d names x) x
   operand-stands store done x differ has_inputs has_done (inl i) =
       inl (record { named = i.entry.0; is = ap (operand_for t d names) i.is ∙ operand-input i.index i.entry i.there; held = held-there store i.entry.0 (In i.index) differ (has_inputs i.index i.entry i.there) ∙ ap Some (sym i.is) })
   operand-stands store done x differ has_inputs has_done (inr (inl c)) =
-      inr (record { decl = c.decl; index = c.index; there = c.there; is = ap (operand_for t d names) c.is ∙ operand-app c.decl.symbol [] ∙ ap (literal_or (operand.Name (name_of names (App c.decl.symbol [])))) c.found; constant = c.is })
+      inr (record { decl = c.decl; index = c.index; there = c.there; is = ap (operand_for t d names) c.is ∙ operand-app c.decl.symbol [] ∙ ap (literal_or (operand.Name (name_of_term names (App c.decl.symbol [])))) c.found; constant = c.is })
   operand-stands store done x differ has_inputs has_done (inr (inr m)) =
-      inl (record { named = name_of names x; is = ap (operand_for t d names) m.is ∙ operand-app m.symbol m.args ∙ ap (literal_or (operand.Name (name_of names (App m.symbol m.args)))) m.no_literal ∙ ap (λ (y : Term). operand.Name (name_of names y)) (sym m.is); held = held-there store (name_of names x) x differ (has_done x m.there) })
+      inl (record { named = name_of_term names x; is = ap (operand_for t d names) m.is ∙ operand-app m.symbol m.args ∙ ap (literal_or (operand.Name (name_of_term names (App m.symbol m.args)))) m.no_literal ∙ ap (λ (y : Term). operand.Name (name_of_term names y)) (sym m.is); held = held-there store (name_of_term names x) x differ (has_done x m.there) })

@@ -7,8 +7,8 @@ use Rattle.am_term.specs.Names.{is_digit, is_local_name}
 use Rattle.am_term.specs.Same.{same_term}
 use Rattle.am_term.proofs.Alike.{same_term-refl, same_term-sound}
 use Rattle.am_term.proofs.Tests.{and_both, fails}
-use Rattle.am_diagram.specs.Listed.{names_of}
-use Rattle.am_plan.specs.Names.{digit, local_name, output_for, Named, named_by, name_of}
+use Rattle.am_diagram.specs.Listed.{entry_names}
+use Rattle.am_plan.specs.Names.{digit, local_name, output_for, Named, named_by, name_of_term}
 use Rattle.am_plan.specs.Numbering.{next_local, named_from}
 use Rattle.am_plan.proofs.Membership.{Among, Different, among-map, map-among}
 
@@ -50,16 +50,16 @@ answered-output o x (p ∷ os) [] a = absurd a
 answered-output o x (p ∷ os) (y ∷ xs) (inl e) = inl e.0
 answered-output o x (p ∷ os) (y ∷ xs) (inr a) = inr (answered-output o x os xs a)
 
-pub answered-name : (o : List ℕ × SortId) (x : Term) (os : List (List ℕ × SortId)) (xs : List Term) → Answered o x os xs → Among o.0 (names_of os)
+pub answered-name : (o : List ℕ × SortId) (x : Term) (os : List (List ℕ × SortId)) (xs : List Term) → Answered o x os xs → Among o.0 (entry_names os)
 answered-name o x os xs a = among-map (λ (e : List ℕ × SortId). e.0) o os (answered-output o x os xs a)
 
 -- of one name there is one output and one answer
-pub answered-one : (o p : List ℕ × SortId) (x y : Term) (os : List (List ℕ × SortId)) (xs : List Term) → Different (names_of os) → Answered o x os xs → Answered p y os xs → o.0 ≡ p.0 → x ≡ y
+pub answered-one : (o p : List ℕ × SortId) (x y : Term) (os : List (List ℕ × SortId)) (xs : List Term) → Different (entry_names os) → Answered o x os xs → Answered p y os xs → o.0 ≡ p.0 → x ≡ y
 answered-one o p x y [] xs h a b e = absurd a
 answered-one o p x y (q ∷ os) [] h a b e = absurd a
 answered-one o p x y (q ∷ os) (z ∷ xs) h (inl a) (inl b) e = a.1 ∙ sym b.1
-answered-one o p x y (q ∷ os) (z ∷ xs) h (inl a) (inr b) e = absurd (h.0 (subst (λ (n : List ℕ). Among n (names_of os)) (sym e ∙ ap (λ (r : List ℕ × SortId). r.0) a.0) (answered-name p y os xs b)))
-answered-one o p x y (q ∷ os) (z ∷ xs) h (inr a) (inl b) e = absurd (h.0 (subst (λ (n : List ℕ). Among n (names_of os)) (e ∙ ap (λ (r : List ℕ × SortId). r.0) b.0) (answered-name o x os xs a)))
+answered-one o p x y (q ∷ os) (z ∷ xs) h (inl a) (inr b) e = absurd (h.0 (subst (λ (n : List ℕ). Among n (entry_names os)) (sym e ∙ ap (λ (r : List ℕ × SortId). r.0) a.0) (answered-name p y os xs b)))
+answered-one o p x y (q ∷ os) (z ∷ xs) h (inr a) (inl b) e = absurd (h.0 (subst (λ (n : List ℕ). Among n (entry_names os)) (e ∙ ap (λ (r : List ℕ × SortId). r.0) b.0) (answered-name o x os xs a)))
 answered-one o p x y (q ∷ os) (z ∷ xs) h (inr a) (inr b) e = answered-one o p x y os xs h.1 a b e
 
 pub output-answered : (x : Term) (os : List (List ℕ × SortId)) (xs : List Term) (n : List ℕ) → output_for x os xs ≡ Some n → (o : List ℕ × SortId) × (o.0 ≡ n) × Answered o x os xs
@@ -118,7 +118,7 @@ module _ (os : List (List ℕ × SortId)) (answer : List Term) where
       named-wider e k next (next + length xs) (k + length (x ∷ xs)) (next-bound (output_for x os answer) k) (next-few (output_for x os answer) k (length xs)) (all-named next xs e a)
 
   -- a name that an output and a local have
-  module _ (outputs_differ : Different (names_of os)) (no_local : (n : List ℕ) → Among n (names_of os) → is_local_name n ≡ false) where
+  module _ (outputs_differ : Different (entry_names os)) (no_local : (n : List ℕ) → Among n (entry_names os) → is_local_name n ≡ false) where
     output-no_local : (x : Term) (n : List ℕ) (j : ℕ) → output_for x os answer ≡ Some n → n ≡ local_name j → ⊥
     output-no_local x n j e is =
         let o = output-answered x os answer n e in
@@ -164,18 +164,18 @@ module _ (os : List (List ℕ × SortId)) (answer : List Term) where
         fewer a b p q = omega arith
 
 -- ---- where terms differ, each is called by its own name
-pub name-own : (es : List Named) (e : Named) → Different (map (λ (q : Named). q.1) es) → Among e es → name_of es e.1 ≡ e.0
+pub name-own : (es : List Named) (e : Named) → Different (map (λ (q : Named). q.1) es) → Among e es → name_of_term es e.1 ≡ e.0
 name-own [] e h a = absurd a
 name-own (q ∷ es) e h (inl s) =
-    ap (λ (b : Bool). if b then q.0 else name_of es e.1) (subst (λ (r : Named). same_term r.1 e.1 ≡ true) s (same_term-refl e.1)) ∙ ap (λ (r : Named). r.0) (sym s)
+    ap (λ (b : Bool). if b then q.0 else name_of_term es e.1) (subst (λ (r : Named). same_term r.1 e.1 ≡ true) s (same_term-refl e.1)) ∙ ap (λ (r : Named). r.0) (sym s)
 name-own (q ∷ es) e h (inr a) =
-    ap (λ (b : Bool). if b then q.0 else name_of es e.1) (fails (same_term q.1 e.1) (λ s. h.0 (subst (λ (x : Term). Among x (map (λ (q : Named). q.1) es)) (sym (same_term-sound q.1 e.1 s)) (among-map (λ (q : Named). q.1) e es a))))
+    ap (λ (b : Bool). if b then q.0 else name_of_term es e.1) (fails (same_term q.1 e.1) (λ s. h.0 (subst (λ (x : Term). Among x (map (λ (q : Named). q.1) es)) (sym (same_term-sound q.1 e.1 s)) (among-map (λ (q : Named). q.1) e es a))))
     ∙ name-own es e h.1 a
 
 -- the terms under their names are the pairs again
-pub pairs-are : (es : List Named) → Different (map (λ (q : Named). q.1) es) → map (λ (x : Term). (name_of es x, x)) (map (λ (q : Named). q.1) es) ≡ es
+pub pairs-are : (es : List Named) → Different (map (λ (q : Named). q.1) es) → map (λ (x : Term). (name_of_term es x, x)) (map (λ (q : Named). q.1) es) ≡ es
 pairs-are es h = part es (λ e a. name-own es e h a)
   where
-    part : (fs : List Named) → ((e : Named) → Among e fs → name_of es e.1 ≡ e.0) → map (λ (x : Term). (name_of es x, x)) (map (λ (q : Named). q.1) fs) ≡ fs
+    part : (fs : List Named) → ((e : Named) → Among e fs → name_of_term es e.1 ≡ e.0) → map (λ (x : Term). (name_of_term es x, x)) (map (λ (q : Named). q.1) fs) ≡ fs
     part [] g = refl
-    part (f ∷ fs) g = ap (λ (n : List ℕ). (n, f.1) ∷ map (λ (x : Term). (name_of es x, x)) (map (λ (q : Named). q.1) fs)) (g f (inl refl)) ∙ ap (λ (rs : List Named). f ∷ rs) (part fs (λ e a. g e (inr a)))
+    part (f ∷ fs) g = ap (λ (n : List ℕ). (n, f.1) ∷ map (λ (x : Term). (name_of_term es x, x)) (map (λ (q : Named). q.1) fs)) (g f (inl refl)) ∙ ap (λ (rs : List Named). f ∷ rs) (part fs (λ e a. g e (inr a)))

@@ -1,25 +1,20 @@
 -- Which answers there is a subroutine for.
-use Rattle.std.specs.Prelude.{◌≤◌, ◌&&◌, ℕ, Bool, true, false, Option, Some, None, List, [], ◌∷◌, slice_get, IsTrue}
+use Rattle.std.specs.Prelude.{◌≤◌, ◌&&◌, ℕ, Bool, true, false, List, [], ◌∷◌, slice_get, IsTrue}
 use Rattle.std.specs.List.{list_all}
 use Rattle.am_term.specs.declared.id.SortId.{SortId}
-use Rattle.am_term.specs.declared.symbol.Symbol.{Symbol}
 use Rattle.am_term.specs.declared.signature.Signature.{Signature}
 use Rattle.am_term.specs.declared.term.Term.{Term}
 use Rattle.am_term.specs.declared.term.Term.TheOpen.{Term-F}
 use Rattle.am_term.specs.declared.term.Term.TheFolds.{fold-Term}
-use Rattle.am_term.specs.Symbols.{is_computable}
 use Rattle.am_term.specs.Sorting.{term_fits}
 use Rattle.am_term.specs.Weight.{nodes}
+use Rattle.am_clause.specs.Final.{is_computable_symbol}
 use Rattle.am_theory.specs.declared.theory.Theory.{Theory}
 use Rattle.am_diagram.specs.declared.diagram.Diagram.{Diagram}
-use Rattle.am_diagram.specs.Listed.{sorts_in}
+use Rattle.am_diagram.specs.Listed.{entry_sorts}
 
 abbrev pub weight_limit : ℕ
 weight_limit = 400
-
-abbrev pub is_computable_symbol : Option Symbol → Bool
-is_computable_symbol None = false
-is_computable_symbol (Some y) = is_computable y.kind
 
 abbrev pub ready_step : Signature → Term-F Bool → Bool
 ready_step sig (Term-F.Var n s) = false
@@ -31,8 +26,8 @@ unfoldable pub is_ready : Signature → Term → Bool
 is_ready sig = fold-Term Bool (ready_step sig)
 
 -- a term for an output of this sort
-pub record Serves (t : Theory) (d : Diagram) (sort : SortId) (x : Term) : Type 0 where
-  pub sorted : IsTrue (term_fits t.sig (sorts_in d.inputs) x sort)
+pub record ServesOutput (t : Theory) (d : Diagram) (sort : SortId) (x : Term) : Type 0 where
+  pub sorted : IsTrue (term_fits t.sig (entry_sorts d.inputs) x sort)
   pub ready : IsTrue (is_ready t.sig x)
   pub small : nodes x ≤ weight_limit
 
@@ -41,7 +36,7 @@ abbrev pub AllServe : Theory → Diagram → List (List ℕ × SortId) → List 
 AllServe t d [] [] = Unit {0}
 AllServe t d [] (x ∷ xs) = ⊥
 AllServe t d (o ∷ os) [] = ⊥
-AllServe t d (o ∷ os) (x ∷ xs) = Serves t d o.1 x × AllServe t d os xs
+AllServe t d (o ∷ os) (x ∷ xs) = ServesOutput t d o.1 x × AllServe t d os xs
 
 abbrev pub IsAnswerFor : Theory → Diagram → List Term → Type 0
 IsAnswerFor t d answer = AllServe t d d.outputs answer

@@ -33,9 +33,9 @@ completed t = terms_below t ++ t ∷ []
 abbrev pub has_symbol : SymId → List SymId → Bool
 has_symbol f fs = list_any (λ (g : SymId). f.0 == g.0) fs
 
-abbrev pub or_else : {A : Type 0} → Option A → Option A → Option A
-or_else (Some x) y = Some x
-or_else None y = y
+abbrev pub first_there : {A : Type 0} → Option A → Option A → Option A
+first_there (Some x) y = Some x
+first_there None y = y
 
 -- the first routine, from number k on, that has the symbol as an output
 abbrev pub routine_from : ℕ → SymId → List Routine → Option Callee
@@ -49,7 +49,7 @@ function_from k f (g ∷ gs) = cond (f.0 == g.symbol.0) (Some (callee.Function k
 
 -- the routine or the listed function of a symbol; a literal has none
 unfoldable pub callee_of : Theory → SymId → Option Callee
-callee_of t f = or_else (routine_from 0 f t.routines) (function_from 0 f t.functions)
+callee_of t f = first_there (routine_from 0 f t.routines) (function_from 0 f t.functions)
 
 -- a call: what is called, and the terms that its inputs stand for
 pub record PlannedCall : Type 0 where
@@ -68,9 +68,9 @@ call_at t (Term-F.App f args) = option_map (call_with args) (callee_of t f)
 unfoldable pub call_of : Theory → Term → Option PlannedCall
 call_of t x = call_at t (out-Term x)
 
-abbrev pub listed : {A : Type 0} → Option A → List A
-listed None = []
-listed (Some x) = x ∷ []
+abbrev pub listed_option : {A : Type 0} → Option A → List A
+listed_option None = []
+listed_option (Some x) = x ∷ []
 
 abbrev pub same_callee : Callee → Callee → Bool
 same_callee (callee.Routine j) (callee.Routine k) = j == k
@@ -83,24 +83,24 @@ abbrev pub same_call : PlannedCall → PlannedCall → Bool
 same_call a b = same_callee a.callee b.callee && same_terms a.args b.args
 
 -- what the terms of an answer ask for, in the order of completion, once for each term
-abbrev pub asked : Theory → List Term → List PlannedCall
-asked t answer = flat_map (λ (x : Term). listed (call_of t x)) (flat_map completed answer)
+abbrev pub asks_for : Theory → List Term → List PlannedCall
+asks_for t answer = flat_map (λ (x : Term). listed_option (call_of t x)) (flat_map completed answer)
 
 -- each different call once, where it is asked for first
 unfoldable pub calls : Theory → List Term → List PlannedCall
-calls t answer = distinct same_call (asked t answer)
+calls t answer = distinct same_call (asks_for t answer)
 
-abbrev pub outputs_at : List Term → Option Routine → List Term
-outputs_at args None = []
-outputs_at args (Some r) = map (λ (f : SymId). App f args) r.outputs
+abbrev pub outputs_made : List Term → Option Routine → List Term
+outputs_made args None = []
+outputs_made args (Some r) = map (λ (f : SymId). App f args) r.outputs
 
-abbrev pub value_at : List Term → Option FortranFunction → List Term
-value_at args None = []
-value_at args (Some f) = App f.symbol args ∷ []
+abbrev pub value_made : List Term → Option FortranFunction → List Term
+value_made args None = []
+value_made args (Some f) = App f.symbol args ∷ []
 
 abbrev pub made_at : Theory → List Term → Callee → List Term
-made_at t args (callee.Routine k) = outputs_at args (slice_get t.routines k)
-made_at t args (callee.Function k) = value_at args (slice_get t.functions k)
+made_at t args (callee.Routine k) = outputs_made args (slice_get t.routines k)
+made_at t args (callee.Function k) = value_made args (slice_get t.functions k)
 
 -- the terms that a call makes: a routine's outputs, or the value of a function, at the inputs' terms
 abbrev pub made_by : Theory → PlannedCall → List Term

@@ -9,8 +9,8 @@ use Rattle.am_diagram.specs.declared.diagram.Diagram.{Diagram}
 use Rattle.am_diagram.specs.Facts.{WellFormed}
 use Rattle.am_fortran.specs.declared.unit.Unit.{Unit as Subroutine}
 use Rattle.am_exec.specs.Terms.{terms}
-use Rattle.am_plan.specs.Calls.{PlannedCall, same_call, asked, calls, made_by}
-use Rattle.am_plan.specs.Names.{named}
+use Rattle.am_plan.specs.Calls.{PlannedCall, same_call, asks_for, calls, made_by}
+use Rattle.am_plan.specs.Names.{named_terms}
 use Rattle.am_plan.specs.Plan.{IsPlan, statement_of}
 use Rattle.am_plan.specs.Answers.{IsAnswerFor}
 
@@ -27,10 +27,10 @@ pub record AreCallsOnce (t : Theory) (d : Diagram) (answer : List Term) : Type 0
   -- no call stands twice
   pub different : IsTrue (are_different (calls t answer))
   -- what is asked for is called, and nothing else is
-  pub called : AllByRecursion (λ (c : PlannedCall). IsTrue (among same_call c (calls t answer))) (asked t answer)
-  pub asked_for : AllByRecursion (λ (c : PlannedCall). IsTrue (among same_call c (asked t answer))) (calls t answer)
+  pub called : AllByRecursion (λ (c : PlannedCall). IsTrue (among same_call c (calls t answer))) (asks_for t answer)
+  pub asked_for : AllByRecursion (λ (c : PlannedCall). IsTrue (among same_call c (asks_for t answer))) (calls t answer)
   -- each call is one statement
-  pub single : AllByRecursion (λ (c : PlannedCall). length (statement_of t d (named t d answer) c) ≡ 1) (calls t answer)
+  pub single : AllByRecursion (λ (c : PlannedCall). length (statement_of t d (named_terms t d answer) c) ≡ 1) (calls t answer)
 
 -- each different call that the terms of an answer ask for is made once, by one statement
 abbrev pub EachCallOnce : Type 0

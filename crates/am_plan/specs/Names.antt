@@ -50,8 +50,8 @@ named_behind outputs answer before [] = []
 named_behind outputs answer before (x ∷ xs) = named_at outputs answer before x ∷ named_behind outputs answer (before ++ x ∷ []) xs
 
 -- the terms that the calls make, with their names: a term's place among them tells its local's number
-unfoldable pub named : Theory → Diagram → List Term → List Named
-named t d answer = named_behind d.outputs answer [] (made t answer)
+unfoldable pub named_terms : Theory → Diagram → List Term → List Named
+named_terms t d answer = named_behind d.outputs answer [] (made t answer)
 
 abbrev pub local_by : Option (List ℕ) → Named → List Named
 local_by (Some n) e = []
@@ -62,6 +62,6 @@ abbrev pub locals : List (List ℕ × SortId) → List Term → List Named → L
 locals outputs answer es = flat_map (λ (e : Named). local_by (output_for e.1 outputs answer) e) es
 
 -- what a term is called; nothing where no call makes it
-abbrev pub name_of : List Named → Term → List ℕ
-name_of [] x = []
-name_of (e ∷ es) x = if same_term e.1 x then e.0 else name_of es x
+abbrev pub name_of_term : List Named → Term → List ℕ
+name_of_term [] x = []
+name_of_term (e ∷ es) x = if same_term e.1 x then e.0 else name_of_term es x

@@ -1,5 +1,5 @@
 -- The subroutine of an answer: one statement for each call, and then the copies.
-use Rattle.std.specs.Prelude.{◌≡◌, ◌++◌, ◌==◌, ℕ, Bool, false, Option, Some, None, List, [], ◌∷◌, map, find, slice_get, slice_index_or, not, if◌then◌else◌}
+use Rattle.std.specs.Prelude.{◌≡◌, ◌++◌, ℕ, Bool, false, Option, Some, None, List, [], ◌∷◌, map, slice_get, slice_index_or, not, if◌then◌else◌}
 use Rattle.std.specs.List.{flat_map}
 use Rattle.std.specs.Str.{bytes_eq}
 use Rattle.am_term.specs.declared.id.SortId.{SortId}
@@ -17,9 +17,9 @@ use Rattle.am_theory.specs.declared.theory.LiteralDecl.{LiteralDecl}
 use Rattle.am_theory.specs.declared.theory.Routine.{Routine}
 use Rattle.am_theory.specs.declared.theory.FortranFunction.{FortranFunction}
 use Rattle.am_theory.specs.declared.theory.Theory.{Theory}
-use Rattle.am_theory.specs.Lookups.{rep_of, copy_of, literal_of, result_sort}
+use Rattle.am_theory.specs.Lookups.{rep_of, copy_of, literal_declared, result_sort}
 use Rattle.am_diagram.specs.declared.diagram.Diagram.{Diagram}
-use Rattle.am_diagram.specs.Listed.{names_of}
+use Rattle.am_diagram.specs.Listed.{entry_names}
 use Rattle.am_fortran.specs.declared.statement.Decl.{Decl}
 use Rattle.am_fortran.specs.declared.statement.Operand.{Operand}
 use Rattle.am_fortran.specs.declared.statement.Operand.TheVariants as operand
@@ -27,10 +27,11 @@ use Rattle.am_fortran.specs.declared.statement.Statement.{Statement}
 use Rattle.am_fortran.specs.declared.statement.Statement.TheVariants.{Call, Assign, Apply}
 use Rattle.am_fortran.specs.declared.unit.Unit.{Unit as Subroutine}
 use Rattle.am_exec.specs.Types.{dummy_type, local_type, is_scalar}
+use Rattle.am_exec.specs.Lawful.{dummies_of}
 use Rattle.am_plan.specs.declared.call.Callee.{Callee}
 use Rattle.am_plan.specs.declared.call.Callee.TheVariants as callee
-use Rattle.am_plan.specs.Calls.{PlannedCall, calls, made_by, listed}
-use Rattle.am_plan.specs.Names.{Named, named, locals, name_of}
+use Rattle.am_plan.specs.Calls.{PlannedCall, calls, made_by, listed_option}
+use Rattle.am_plan.specs.Names.{Named, named_terms, locals, name_of_term}
 
 -- ---- operands
 abbrev pub written_value : LitValue → Operand
@@ -42,9 +43,9 @@ literal_or o None = o
 literal_or o (Some l) = written_value l.value
 
 abbrev pub operand_at : Theory → Diagram → List Named → Term → Term-F Term → Operand
-operand_at t d names x (Term-F.Var n s) = operand.Name (name_of names x)
-operand_at t d names x (Term-F.In k) = operand.Name (slice_index_or (names_of d.inputs) k [])
-operand_at t d names x (Term-F.App f args) = literal_or (operand.Name (name_of names x)) (literal_of t f)
+operand_at t d names x (Term-F.Var n s) = operand.Name (name_of_term names x)
+operand_at t d names x (Term-F.In k) = operand.Name (slice_index_or (entry_names d.inputs) k [])
+operand_at t d names x (Term-F.App f args) = literal_or (operand.Name (name_of_term names x)) (literal_declared t f)
 
 -- what stands for a term: an input's name, a literal's value, or the name that holds the term
 unfoldable pub operand_for : Theory → Diagram → List Named → Term → Operand
@@ -53,11 +54,11 @@ operand_for t d names x = operand_at t d names x (out-Term x)
 -- ---- statements
 abbrev pub routine_call : Theory → Diagram → List Named → PlannedCall → Option Routine → List Statement
 routine_call t d names c None = []
-routine_call t d names c (Some r) = Call r.name (map (operand_for t d names) c.args ++ map (λ (x : Term). operand.Name (name_of names x)) (made_by t c)) ∷ []
+routine_call t d names c (Some r) = Call r.name (map (operand_for t d names) c.args ++ map (λ (x : Term). operand.Name (name_of_term names x)) (made_by t c)) ∷ []
 
 abbrev pub first_name : List Named → List Term → List ℕ
 first_name names [] = []
-first_name names (x ∷ xs) = name_of names x
+first_name names (x ∷ xs) = name_of_term names x
 
 abbrev pub function_call : Theory → Diagram → List Named → PlannedCall → Option FortranFunction → List Statement
 function_call t d names c None = []
@@ -102,10 +103,10 @@ rep_or_double (Some r) = r
 abbrev pub dummy_decl : Theory → List ℕ × SortId → Decl
 dummy_decl t e = record { ty = dummy_type (rep_or_double (rep_of t e.1)); name = e.0 }
 
-abbrev pub head_of : Term-F Term → Option SymId
-head_of (Term-F.Var n s) = None
-head_of (Term-F.In k) = None
-head_of (Term-F.App f args) = Some f
+abbrev pub head_symbol : Term-F Term → Option SymId
+head_symbol (Term-F.Var n s) = None
+head_symbol (Term-F.In k) = None
+head_symbol (Term-F.App f args) = Some f
 
 abbrev pub rep_of_sort : Theory → Option SortId → Rep
 rep_of_sort t None = Double
@@ -117,11 +118,11 @@ rep_of_head t (Some f) = rep_of_sort t (result_sort t.sig f)
 
 -- a local has the type of its term's sort
 abbrev pub local_decl : Theory → Named → Decl
-local_decl t e = record { ty = local_type (rep_of_head t (head_of (out-Term e.1))); name = e.0 }
+local_decl t e = record { ty = local_type (rep_of_head t (head_symbol (out-Term e.1))); name = e.0 }
 
 abbrev pub function_at : Theory → Callee → List FortranFunction
 function_at t (callee.Routine k) = []
-function_at t (callee.Function k) = listed (slice_get t.functions k)
+function_at t (callee.Function k) = listed_option (slice_get t.functions k)
 
 abbrev pub same_function : FortranFunction → FortranFunction → Bool
 same_function f g = bytes_eq f.name g.name
@@ -130,18 +131,14 @@ same_function f g = bytes_eq f.name g.name
 abbrev pub functions_used : Theory → List PlannedCall → List FortranFunction
 functions_used t cs = distinct same_function (flat_map (λ (c : PlannedCall). function_at t c.callee) cs)
 
-abbrev pub function_decl : Theory → FortranFunction → Decl
-function_decl t f = record { ty = local_type (rep_of_head t (Some f.symbol)); name = f.name }
-
--- the inputs and then the outputs
-abbrev pub arguments : Diagram → List (List ℕ × SortId)
-arguments d = d.inputs ++ d.outputs
+abbrev pub called_function_decl : Theory → FortranFunction → Decl
+called_function_decl t f = record { ty = local_type (rep_of_head t (Some f.symbol)); name = f.name }
 
 -- The unit of an answer. Its name is the diagram's and its dummies are the inputs and then the outputs; these
 -- are declared, then the locals in order, then the functions in order of first use, each once; then comes one
 -- statement for each call, and then the copies.
 pub record IsPlan (t : Theory) (d : Diagram) (answer : List Term) (u : Subroutine) : Type 0 where
   pub name : u.name ≡ d.name
-  pub dummies : u.dummies ≡ names_of (arguments d)
-  pub declarations : u.declarations ≡ map (dummy_decl t) (arguments d) ++ map (local_decl t) (locals d.outputs answer (named t d answer)) ++ map (function_decl t) (functions_used t (calls t answer))
-  pub statements : u.statements ≡ flat_map (statement_of t d (named t d answer)) (calls t answer) ++ copies t d (named t d answer) d.outputs answer
+  pub dummies : u.dummies ≡ entry_names (dummies_of d)
+  pub declarations : u.declarations ≡ map (dummy_decl t) (dummies_of d) ++ map (local_decl t) (locals d.outputs answer (named_terms t d answer)) ++ map (called_function_decl t) (functions_used t (calls t answer))
+  pub statements : u.statements ≡ flat_map (statement_of t d (named_terms t d answer)) (calls t answer) ++ copies t d (named_terms t d answer) d.outputs answer

@@ -1,6 +1,7 @@
 ghost use Rattle.std.specs.Prelude.{◌≡◌, ◌↔◌, IsTrue, slice_get, IfOk};
-ghost use Rattle.am_diagram.specs.Listed.{sorts_in};
-ghost use Rattle.am_plan.specs.Answers.{is_ready as is_ready_term, is_computable_symbol, IsAnswerFor};
+ghost use Rattle.am_clause.specs.Final.{is_computable_symbol};
+ghost use Rattle.am_diagram.specs.Listed.{entry_sorts};
+ghost use Rattle.am_plan.specs.Answers.{is_ready as is_ready_term, IsAnswerFor};
 ghost use Rattle.am_plan.specs.AnswerTests.{is_server, are_servers as are_servers_of};
 
 use am_diagram::Diagram;
@@ -29,7 +30,7 @@ pub fn is_answer(
 }
 
 fn input_sorts(alloc: Global, inputs: &[(Name, SortId)]) -> Result<Items<SortId>, NoMemory>
-    ensures { IfOk result (λ sorts. sorts ≡ sorts_in inputs.now) }
+    ensures { IfOk result (λ sorts. sorts ≡ entry_sorts inputs.now) }
 {
     let mut sorts = Items::new(alloc);
     for input in inputs {

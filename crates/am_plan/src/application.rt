@@ -3,7 +3,7 @@ ghost use Rattle.am_term.specs.declared.term.Term.TheVariants.{App};
 ghost use Rattle.am_term.specs.declared.term.Term.TheViews.{out-Term};
 ghost use Rattle.am_term.specs.Same.{same_term};
 ghost use Rattle.am_plan.specs.Fingerprints.{fingerprint as fingerprint_of_term};
-ghost use Rattle.am_plan.specs.Plan.{head_of};
+ghost use Rattle.am_plan.specs.Plan.{head_symbol};
 
 use crate::fingerprinting::fingerprint_at;
 use am_term::{SymId, Term, same_terms};
@@ -49,7 +49,7 @@ impl<'a> Application<'a> {
 
     /// Its symbol.
     pub fn symbol(&self) -> SymId
-        ensures { head_of (out-Term self.now) ≡ Some result }
+        ensures { head_symbol (out-Term self.now) ≡ Some result }
     {
         self.symbol
     }

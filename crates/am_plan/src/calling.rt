@@ -1,6 +1,6 @@
 ghost use Rattle.std.specs.Prelude.{◌≡◌, [], ◌∷◌, IfOk, OnOk, option_map};
 ghost use Rattle.am_clause.specs.Distinct.{with_new};
-ghost use Rattle.am_plan.specs.Calls.{has_symbol as is_symbol_in, routine_from, function_from, callee_of as callee_with, call_with, listed, same_call, asked, calls as calls_asked};
+ghost use Rattle.am_plan.specs.Calls.{has_symbol as is_symbol_in, routine_from, function_from, callee_of as callee_with, call_with, listed_option, same_call, asks_for, calls as calls_asked};
 
 use crate::call::{Callee, PlannedCall};
 use crate::seen::{Seen, add, is_called};
@@ -82,7 +82,7 @@ pub fn calls<'a>(
 #[cycle(collecting)]
 #[tactic(auto, using(crate::proofs::Asking::asking))]
 fn collect_all<'a>(theory: &Theory, terms: &'a [Term], seen: &mut Seen<'a>) -> Result<(), NoMemory>
-    ensures { OnOk result (seen.new.calls ≡ with_new same_call seen.old.calls (asked theory.now terms.now)) }
+    ensures { OnOk result (seen.new.calls ≡ with_new same_call seen.old.calls (asks_for theory.now terms.now)) }
 {
     for term in terms {
         collect(theory, term, seen)?;
@@ -94,7 +94,7 @@ fn collect_all<'a>(theory: &Theory, terms: &'a [Term], seen: &mut Seen<'a>) -> R
 #[cycle(collecting)]
 #[tactic(auto, using(crate::proofs::Asking::asking))]
 fn collect<'a>(theory: &Theory, term: &'a Term, seen: &mut Seen<'a>) -> Result<(), NoMemory>
-    ensures { OnOk result (seen.new.calls ≡ with_new same_call seen.old.calls (asked theory.now (term.now ∷ []))) }
+    ensures { OnOk result (seen.new.calls ≡ with_new same_call seen.old.calls (asks_for theory.now (term.now ∷ []))) }
 {
     match term {
         Term::Var { .. } => Ok(()),
@@ -109,7 +109,8 @@ fn collect<'a>(theory: &Theory, term: &'a Term, seen: &mut Seen<'a>) -> Result<(
 // The call at these terms is behind what was seen, if there is something to call and it wasn't seen.
 #[tactic(auto, using(crate::proofs::Asking::asking))]
 fn ask<'a>(callee: Option<Callee>, args: &'a [Term], seen: &mut Seen<'a>) -> Result<(), NoMemory>
-    ensures { OnOk result (seen.new.calls ≡ with_new same_call seen.old.calls (listed (option_map (call_with args.now) callee))) }
+    ensures { OnOk result (seen.new.calls ≡ with_new same_call seen.old.calls
+        (listed_option (option_map (call_with args.now) callee))) }
 {
     match callee {
         None => Ok(()),

@@ -2,8 +2,8 @@ ghost use Rattle.std.specs.Prelude.{◌≡◌, ◌++◌, ◌∷◌, [], map, IfO
 ghost use Rattle.am_term.specs.NameLists.{is_among};
 ghost use Rattle.am_fortran.specs.declared.statement.Decl.{Decl};
 ghost use Rattle.am_plan.specs.Names.{locals as locals_in};
-ghost use Rattle.am_plan.specs.Plan.{dummy_decl as dummy_declaration, local_decl as local_declaration, function_decl as function_declaration, functions_used as functions_called, function_at};
-ghost use Rattle.am_plan.specs.Calls.{listed};
+ghost use Rattle.am_plan.specs.Plan.{dummy_decl as dummy_declaration, local_decl as local_declaration, called_function_decl as function_declaration, functions_used as functions_called, function_at};
+ghost use Rattle.am_plan.specs.Calls.{listed_option};
 
 use crate::application::Application;
 use crate::call::{Callee, PlannedCall};
@@ -51,7 +51,8 @@ pub fn push_locals(
     names: &[(Name, Application)],
     made: &mut Items<Decl>,
 ) -> Result<(), NoMemory>
-    ensures { OnOk result (made.new ≡ made.old ++ map (local_declaration theory.now) (locals_in outputs.now answer.now names.now)) }
+    ensures { OnOk result (made.new ≡ made.old ++ map (local_declaration theory.now)
+        (locals_in outputs.now answer.now names.now)) }
 {
     let index = index_of(alloc, answer)?;
     let wanted = Wanted {
@@ -104,7 +105,7 @@ pub fn functions(
 
 // The listed function that is called, if one is. Takes no memory.
 fn called_function(theory: &Theory, callee: Callee) -> Option<&FortranFunction>
-    ensures { listed (option_copied result) ≡ function_at theory.now callee }
+    ensures { listed_option (option_copied result) ≡ function_at theory.now callee }
 {
     match callee {
         Callee::Routine(_) => None,
@@ -120,7 +121,8 @@ fn declare(
     function: &FortranFunction,
     made: &mut Items<Decl>,
 ) -> Result<(), NoMemory>
-    ensures { OnOk result (made.new ≡ (if is_among function.now.name (map (λ (e : Decl). e.name) made.old) then made.old else made.old ++ function_declaration theory.now function.now ∷ [])) }
+    ensures { OnOk result (made.new ≡ (if is_among function.now.name (map (λ (e : Decl).
+        e.name) made.old) then made.old else made.old ++ function_declaration theory.now function.now ∷ [])) }
 {
     if is_declared(&function.name, made.as_slice()) {
         return Ok(());

@@ -3,8 +3,8 @@
 //! `specs/Calls.antt` says which calls an answer asks for, `Names` what their outputs are called and `Numbering`
 //! how that is made step by step, `Plan` which subroutine that gives, `Fingerprints` by which numbers calls and terms
 //! are looked up, `Answers` which answers there is one for and `AnswerTests` how these are told, `Laws` that its run by
-//! terms gives the answer. The crate rests on `am_term`, `am_clause`, `am_theory`, `am_diagram`, `am_fortran`, `am_world` and
-//! `am_exec`.
+//! terms gives the answer. The crate rests on `am_term`, `am_clause`, `am_theory`, `am_diagram`, `am_fortran`,
+//! `am_world` and `am_exec`.
 #![tactic(auto)]
 
 mod answering;

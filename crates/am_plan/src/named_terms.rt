@@ -1,5 +1,5 @@
 ghost use Rattle.std.specs.Prelude.{◌≡◌, map, IfOk};
-ghost use Rattle.am_plan.specs.Names.{Named, name_of as name_under};
+ghost use Rattle.am_plan.specs.Names.{Named, name_of_term as name_under};
 ghost use Rattle.am_plan.specs.Fingerprints.{fingerprint as fingerprint_of_term};
 
 use crate::application::Application;

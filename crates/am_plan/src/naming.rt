@@ -28,7 +28,8 @@ pub fn named<'a>(
     answer: &[Term],
     calls: &[PlannedCall<'a>],
 ) -> Result<Items<(Name, Application<'a>)>, NoMemory>
-    ensures { IfOk result (λ ns. ns ≡ named_behind outputs.now answer.now [] (flat_map (terms_of_call theory.now) calls.now)) }
+    ensures { IfOk result (λ ns. ns ≡ named_behind outputs.now answer.now []
+        (flat_map (terms_of_call theory.now) calls.now)) }
 {
     let index = index_of(alloc, answer)?;
     let wanted = Wanted {
@@ -55,7 +56,9 @@ fn push_made<'a>(
     k: usize,
     names: &mut Items<(Name, Application<'a>)>,
 ) -> Result<usize, NoMemory>
-    ensures { IfOk result (λ n. (ys : List Term) → names.new ++ named_from n wanted.now.outputs.now wanted.now.answer.now ys ≡ names.old ++ named_from k wanted.now.outputs.now wanted.now.answer.now (terms_of_call theory.now call.now ++ ys)) }
+    ensures { IfOk result (λ n. (ys : List Term)
+        → names.new ++ named_from n wanted.now.outputs.now wanted.now.answer.now ys ≡ names.old
+        ++ named_from k wanted.now.outputs.now wanted.now.answer.now (terms_of_call theory.now call.now ++ ys)) }
 {
     let args = call.args();
     match call.callee() {
@@ -79,7 +82,10 @@ fn push_terms<'a>(
     k: usize,
     names: &mut Items<(Name, Application<'a>)>,
 ) -> Result<usize, NoMemory>
-    ensures { IfOk result (λ n. (ys : List Term) → names.new ++ named_from n wanted.now.outputs.now wanted.now.answer.now ys ≡ names.old ++ named_from k wanted.now.outputs.now wanted.now.answer.now (map (λ (f : SymId). App f args.now) symbols.now ++ ys)) }
+    ensures { IfOk result (λ n. (ys : List Term)
+        → names.new ++ named_from n wanted.now.outputs.now wanted.now.answer.now ys ≡ names.old
+        ++ named_from k wanted.now.outputs.now wanted.now.answer.now (map (λ (f : SymId).
+        App f args.now) symbols.now ++ ys)) }
 {
     let mut next = k;
     let mut rest = symbols;

@@ -11,7 +11,10 @@ pub fn note(
     place: usize,
     places: &mut HashMap<u64, usize>,
 ) -> Result<(), NoMemory>
-    ensures { MatchResult result (λ _. (p : ℕ) → get nat_eq places.new p ≡ option_or (get nat_eq places.old p) (if p == fingerprint then Some place else None)) (λ _. (p : ℕ) → get nat_eq places.new p ≡ get nat_eq places.old p) }
+    ensures { MatchResult result (λ _. (p : ℕ)
+        → get nat_eq places.new p ≡ option_or (get nat_eq places.old p)
+        (if p == fingerprint then Some place else None)) (λ _. (p : ℕ)
+        → get nat_eq places.new p ≡ get nat_eq places.old p) }
 {
     if places.contains_key(&fingerprint) {
         return Ok(());

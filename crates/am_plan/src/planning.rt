@@ -2,11 +2,12 @@ ghost use Rattle.std.specs.Prelude.{◌≡◌, ◌++◌, [], IfOk, OnOk, map};
 ghost use Rattle.std.specs.List.{flat_map};
 ghost use Rattle.am_theory.specs.Facts.{WellFormed as TheoryFacts};
 ghost use Rattle.am_diagram.specs.Facts.{WellFormed as DiagramFacts};
-ghost use Rattle.am_diagram.specs.Listed.{names_of};
+ghost use Rattle.am_diagram.specs.Listed.{entry_names};
+ghost use Rattle.am_exec.specs.Lawful.{dummies_of};
 ghost use Rattle.am_plan.specs.Answers.{IsAnswerFor};
 ghost use Rattle.am_plan.specs.Calls.{made_by};
 ghost use Rattle.am_plan.specs.Names.{locals, named_behind};
-ghost use Rattle.am_plan.specs.Plan.{IsPlan, arguments, dummy_decl, local_decl, functions_used, function_decl, statement_of as statement_for, copies};
+ghost use Rattle.am_plan.specs.Plan.{IsPlan, dummy_decl, local_decl, functions_used, called_function_decl, statement_of as statement_for, copies};
 
 use crate::application::Application;
 use crate::call::PlannedCall;
@@ -66,7 +67,8 @@ fn names<'a>(
     answer: &[Term],
     calls: &[PlannedCall<'a>],
 ) -> Result<NamedTerms<'a>, NoMemory>
-    ensures { IfOk result (λ ns. ns.entries ≡ named_behind diagram.now.outputs answer.now [] (flat_map (made_by theory.now) calls.now)) }
+    ensures { IfOk result (λ ns. ns.entries ≡ named_behind diagram.now.outputs answer.now []
+        (flat_map (made_by theory.now) calls.now)) }
 {
     let entries = named(alloc, theory, diagram.outputs.as_slice(), answer, calls)?;
     indexed(alloc, entries)
@@ -81,7 +83,7 @@ fn copy_name(alloc: Global, name: &Name) -> Result<Name, NoMemory>
 // The names of the inputs and then of the outputs.
 #[tactic(auto, using(crate::proofs::UnitPlanned::planning))]
 fn dummies(alloc: Global, diagram: &Diagram) -> Result<Items<Name>, NoMemory>
-    ensures { IfOk result (λ ns. ns ≡ names_of (arguments diagram.now)) }
+    ensures { IfOk result (λ ns. ns ≡ entry_names (dummies_of diagram.now)) }
 {
     let mut names = Items::new(alloc);
     push_names(alloc, diagram.inputs.as_slice(), &mut names)?;
@@ -94,7 +96,7 @@ fn push_names(
     entries: &[(Name, SortId)],
     names: &mut Items<Name>,
 ) -> Result<(), NoMemory>
-    ensures { OnOk result (names.new ≡ names.old ++ names_of entries.now) }
+    ensures { OnOk result (names.new ≡ names.old ++ entry_names entries.now) }
 {
     let mut rest = entries;
     while let [entry, behind @ ..] = rest {
@@ -114,7 +116,9 @@ fn declarations(
     names: &[(Name, Application)],
     calls: &[PlannedCall],
 ) -> Result<Items<Decl>, NoMemory>
-    ensures { IfOk result (λ es. es ≡ map (dummy_decl theory.now) (arguments diagram.now) ++ map (local_decl theory.now) (locals diagram.now.outputs answer.now names.now) ++ map (function_decl theory.now) (functions_used theory.now calls.now)) }
+    ensures { IfOk result (λ es. es ≡ map (dummy_decl theory.now) (dummies_of diagram.now) ++ map
+        (local_decl theory.now) (locals diagram.now.outputs answer.now names.now) ++ map
+        (called_function_decl theory.now) (functions_used theory.now calls.now)) }
 {
     let mut made = Items::new(alloc);
     push_dummies(alloc, theory, diagram.inputs.as_slice(), &mut made)?;
@@ -141,7 +145,8 @@ fn body(
     names: &NamedTerms,
     calls: &[PlannedCall],
 ) -> Result<Items<Statement>, NoMemory>
-    ensures { IfOk result (λ ss. ss ≡ flat_map (statement_for theory.now diagram.now names.now.entries) calls.now ++ copies theory.now diagram.now names.now.entries diagram.now.outputs answer.now) }
+    ensures { IfOk result (λ ss. ss ≡ flat_map (statement_for theory.now diagram.now names.now.entries) calls.now
+        ++ copies theory.now diagram.now names.now.entries diagram.now.outputs answer.now) }
 {
     let mut made = statements(alloc, theory, diagram, names, calls)?;
     push_copies(alloc, theory, diagram, names, answer, &mut made)?;

@@ -5,9 +5,9 @@ ghost use Rattle.am_term.specs.declared.term.Term.{Term};
 ghost use Rattle.am_term.specs.declared.term.Term.TheVariants.{App};
 ghost use Rattle.am_fortran.specs.declared.statement.Operand.TheVariants as operand;
 ghost use Rattle.am_theory.specs.Lookups.{copy_of as copy_at};
-ghost use Rattle.am_diagram.specs.Listed.{names_of};
-ghost use Rattle.am_plan.specs.Calls.{listed, made_by};
-ghost use Rattle.am_plan.specs.Names.{name_of as name_under};
+ghost use Rattle.am_diagram.specs.Listed.{entry_names};
+ghost use Rattle.am_plan.specs.Calls.{listed_option, made_by};
+ghost use Rattle.am_plan.specs.Names.{name_of_term as name_under};
 ghost use Rattle.am_plan.specs.Plan.{written_value as written, operand_for as operand_of, routine_call as call_of_routine, function_call as call_of_function, statement_of as statement_for, copy_name, copy_to as copied_to, is_set as is_name_set, copies as copies_of};
 
 use crate::application::Application;
@@ -64,7 +64,7 @@ fn written_value(alloc: Global, value: &LitValue) -> Result<Operand, NoMemory>
 // The name of an input; the empty name where there is none of that number.
 #[tactic(auto, using(crate::proofs::Operands::stating))]
 fn input_name(alloc: Global, inputs: &[(Name, SortId)], at: usize) -> Result<Name, NoMemory>
-    ensures { IfOk result (λ n. n ≡ slice_index_or (names_of inputs.now) at []) }
+    ensures { IfOk result (λ n. n ≡ slice_index_or (entry_names inputs.now) at []) }
 {
     if at >= inputs.len() {
         return Ok(Name::empty(alloc));
@@ -99,7 +99,8 @@ fn push_names(
     args: &[Term],
     made: &mut Items<Operand>,
 ) -> Result<(), NoMemory>
-    ensures { OnOk result (made.new ≡ made.old ++ map (λ (x : Term). operand.Name (name_under names.now.entries x)) (map (λ (f : SymId). App f args.now) symbols.now)) }
+    ensures { OnOk result (made.new ≡ made.old ++ map (λ (x : Term).
+        operand.Name (name_under names.now.entries x)) (map (λ (f : SymId). App f args.now) symbols.now)) }
 {
     let mut rest = symbols;
     while let [f, behind @ ..] = rest {
@@ -119,7 +120,7 @@ pub fn statement_of(
     names: &NamedTerms,
     call: &PlannedCall,
 ) -> Result<Option<Statement>, NoMemory>
-    ensures { IfOk result (λ s. listed s ≡ statement_for theory.now diagram.now names.now.entries call.now) }
+    ensures { IfOk result (λ s. listed_option s ≡ statement_for theory.now diagram.now names.now.entries call.now) }
 {
     match call.callee() {
         Callee::Routine(k) => match theory.routines.get(k) {
@@ -144,7 +145,8 @@ fn routine_call(
     routine: &Routine,
 ) -> Result<Statement, NoMemory>
     requires { made_by theory.now call.now ≡ map (λ (f : SymId). App f call.now.args) routine.now.outputs }
-    ensures { IfOk result (λ s. s ∷ [] ≡ call_of_routine theory.now diagram.now names.now.entries call.now (Some routine.now)) }
+    ensures { IfOk result (λ s. s ∷ [] ≡ call_of_routine theory.now diagram.now names.now.entries call.now
+        (Some routine.now)) }
 {
     let inputs = call.args();
     let mut args = operands_for(alloc, theory, diagram, names, inputs)?;
@@ -162,7 +164,8 @@ fn function_call(
     function: &FortranFunction,
 ) -> Result<Statement, NoMemory>
     requires { made_by theory.now call.now ≡ App function.now.symbol call.now.args ∷ [] }
-    ensures { IfOk result (λ s. s ∷ [] ≡ call_of_function theory.now diagram.now names.now.entries call.now (Some function.now)) }
+    ensures { IfOk result (λ s. s ∷ [] ≡ call_of_function theory.now diagram.now names.now.entries call.now
+        (Some function.now)) }
 {
     let inputs = call.args();
     let value = Application::new(function.symbol, inputs);
@@ -208,7 +211,8 @@ pub fn push_copies(
     answer: &[Term],
     made: &mut Items<Statement>,
 ) -> Result<(), NoMemory>
-    ensures { OnOk result (made.new ≡ made.old ++ copies_of theory.now diagram.now names.now.entries diagram.now.outputs answer.now) }
+    ensures { OnOk result (made.new ≡ made.old
+        ++ copies_of theory.now diagram.now names.now.entries diagram.now.outputs answer.now) }
 {
     let mut left = diagram.outputs.as_slice();
     let mut rest = answer;

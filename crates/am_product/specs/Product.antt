@@ -25,9 +25,9 @@ pub record IsProduct (t : Theory) (d : Diagram) (log : Log) (text : List ℕ) : 
   pub is : text ≡ log_text t d log ++ unit_text unit
 
 -- what is made of a log: its product, where that is no longer than a text may be and is accepted; or that it is longer
-abbrev pub IsMade : Theory → Diagram → Log → Product → Type 0
-IsMade t d log (Text text) = IsProduct t d log text.items × (length text.items ≤ byte_limit) × Accepted t d text.items
-IsMade t d log Long = (text : List ℕ) × IsProduct t d log text × (byte_limit < length text)
+abbrev pub Produces : Theory → Diagram → Log → Product → Type 0
+Produces t d log (Text text) = IsProduct t d log text.items × (length text.items ≤ byte_limit) × Accepted t d text.items
+Produces t d log Long = (text : List ℕ) × IsProduct t d log text × (byte_limit < length text)
 
 -- in no model of the axioms any inputs meet the givens
 abbrev pub AreRefuted : Theory → Diagram → Type 0

@@ -2,7 +2,7 @@ ghost use Rattle.std.specs.Prelude.{IfOk};
 ghost use Rattle.am_theory.specs.Facts.{WellFormed};
 ghost use Rattle.am_diagram.specs.Facts.{WellFormed as WellDrawn};
 ghost use Rattle.am_product.specs.Planned.{IsPlanned};
-ghost use Rattle.am_product.specs.Product.{IsProduct, IsMade};
+ghost use Rattle.am_product.specs.Product.{IsProduct, Produces};
 
 use crate::outcome::Product;
 use am_check::{Verdict, check, last_answer};
@@ -27,7 +27,7 @@ pub fn product(
 ) -> Result<Product, NoMemory>
     requires theory { WellFormed theory.now }
     requires diagram { WellDrawn theory.now diagram.now }
-    ensures { IfOk result (IsMade theory.now diagram.now log.now) }
+    ensures { IfOk result (Produces theory.now diagram.now log.now) }
 {
     let text = joined(alloc, theory, diagram, log)?;
     if text.len() > BYTE_LIMIT {

@@ -16,11 +16,11 @@ use Rattle.am_clause.specs.Numbered.{IsNumbered, sorts_in}
 use Rattle.am_clause.proofs.Renames.{Within, within-left}
 use Rattle.am_rules.specs.Row.{in_lists, renamed_lists}
 use Rattle.am_rules.specs.Most.{IsUndone}
-use Rattle.am_rules.specs.Made.{IsAnswer, IsNatural}
+use Rattle.am_rules.specs.Made.{IsMadeIfAny, IsNatural}
 use Rattle.am_rules.specs.Parts.{literal_under, answer_under, all_but}
 use Rattle.am_rules.specs.Binding.{BindsOne, OfOne, of_one}
 use Rattle.am_rules.specs.Asked.{asked}
-use Rattle.am_rules.specs.Resolution.{atom_at, AtomsMeet}
+use Rattle.am_rules.specs.Resolution.{nth_atom, AtomsMeet}
 use Rattle.am_rules.specs.Alone.{FactorMeets, SidesMeet, ReflexMeets, kept, sides, factoring, reflexion}
 use Rattle.am_rules.proofs.Standing.{Each, each-left, each-right, each-both}
 use Rattle.am_rules.proofs.Lifts.{EachAtom, clause, each-literals, all-weaker}
@@ -92,17 +92,17 @@ module _ (sig : Signature) (ins : List SortId) (p : Clause) (i : ℕ) (numbered 
 -- factoring
 factor-after : (p : Clause) (i j : ℕ) → IsNumbered p → (to : Numbers) (xs : List Term) → length xs ≡ length (variables p) → FactorMeets p i j (instance xs) → FactorMeets p i j (instance (renamed_all to xs))
 factor-after p i j n to xs long m = atoms-after (instance xs) (instance xs) (instance (renamed_all to xs)) (instance (renamed_all to xs)) (renamed to) (Below (length xs)) (Below (length xs)) (instance-renamed to xs) (instance-renamed to xs)
-    (atom_at i p) (atom_at j p) (atom-below p n xs long i) (atom-below p n xs long j) m
+    (nth_atom i p) (nth_atom j p) (atom-below p n xs long i) (atom-below p n xs long j) m
 
 module _ (sig : Signature) (ins : List SortId) (p : Clause) (numbered : IsNumbered p) where
   pub factor-natural : (i j : ℕ) → IsNatural (OfOne (BindsOne sig ins p (FactorMeets p i j))) (of_one (kept p 0))
   factor-natural i j = kept-natural sig ins p 0 numbered (FactorMeets p i j) (factor-after p i j numbered)
 
-  pub factoring-answer : (sorted : is_sorted_clause sig ins p ≡ true) (i j : ℕ) → IsAnswer sig ins (OfOne (BindsOne sig ins p (FactorMeets p i j))) (of_one (kept p 0)) (factoring sig ins p i j)
-  factoring-answer sorted i j = alone-answer sig ins p numbered sorted (FactorMeets p i j) (kept p 0) (factor-natural i j) (asked (atom_at i p) (atom_at j p) None None)
-      (λ f. told-as f f (AtomsMeet f f (atom_at i p) (atom_at j p) × Unit {0}) (FactorMeets p i j f) (λ h. h.0) (λ h. (h, tt)) (asked (atom_at i p) (atom_at j p) None None) (asked-told f f (atom_at i p) (atom_at j p) None None))
+  pub factoring-answer : (sorted : is_sorted_clause sig ins p ≡ true) (i j : ℕ) → IsMadeIfAny sig ins (OfOne (BindsOne sig ins p (FactorMeets p i j))) (of_one (kept p 0)) (factoring sig ins p i j)
+  factoring-answer sorted i j = alone-answer sig ins p numbered sorted (FactorMeets p i j) (kept p 0) (factor-natural i j) (asked (nth_atom i p) (nth_atom j p) None None)
+      (λ f. told-as f f (AtomsMeet f f (nth_atom i p) (nth_atom j p) × Unit {0}) (FactorMeets p i j f) (λ h. h.0) (λ h. (h, tt)) (asked (nth_atom i p) (nth_atom j p) None None) (asked-told f f (nth_atom i p) (nth_atom j p) None None))
       (asked-both (λ t. G sig ins p numbered sorted (FactorMeets p i j) (kept p 0) (factor-natural i j) t) (λ t. G sig ins p numbered sorted (FactorMeets p i j) (kept p 0) (factor-natural i j) t)
-      (atom_at i p) (atom_at j p) None None (atom_good sig ins p numbered sorted i) (atom_good sig ins p numbered sorted j) tt tt)
+      (nth_atom i p) (nth_atom j p) None None (atom_good sig ins p numbered sorted i) (atom_good sig ins p numbered sorted j) tt tt)
 
 -- reflexion
 sides-told : (f : Term → Term) (o : Option Atom) → Told f f (SidesMeet f o) (sides o)
@@ -125,8 +125,8 @@ sides-after f h r P same (Some (Eq l k)) e m =
 module _ (sig : Signature) (ins : List SortId) (p : Clause) (numbered : IsNumbered p) (i : ℕ) where
   pub reflex-natural : IsNatural (OfOne (BindsOne sig ins p (ReflexMeets p i))) (of_one (kept p i))
   reflex-natural = kept-natural sig ins p i numbered (ReflexMeets p i)
-      (λ to xs long m. sides-after (instance xs) (instance (renamed_all to xs)) (renamed to) (Below (length xs)) (instance-renamed to xs) (atom_at i p) (atom-below p numbered xs long i) m)
+      (λ to xs long m. sides-after (instance xs) (instance (renamed_all to xs)) (renamed to) (Below (length xs)) (instance-renamed to xs) (nth_atom i p) (atom-below p numbered xs long i) m)
 
-  pub reflexion-answer : (sorted : is_sorted_clause sig ins p ≡ true) → IsAnswer sig ins (OfOne (BindsOne sig ins p (ReflexMeets p i))) (of_one (kept p i)) (reflexion sig ins p i)
-  reflexion-answer sorted = alone-answer sig ins p numbered sorted (ReflexMeets p i) (kept p i) reflex-natural (sides (atom_at i p)) (λ f. sides-told f (atom_at i p))
-      (sides-hold (λ t. G sig ins p numbered sorted (ReflexMeets p i) (kept p i) reflex-natural t) (atom_at i p) (atom_good sig ins p numbered sorted i))
+  pub reflexion-answer : (sorted : is_sorted_clause sig ins p ≡ true) → IsMadeIfAny sig ins (OfOne (BindsOne sig ins p (ReflexMeets p i))) (of_one (kept p i)) (reflexion sig ins p i)
+  reflexion-answer sorted = alone-answer sig ins p numbered sorted (ReflexMeets p i) (kept p i) reflex-natural (sides (nth_atom i p)) (λ f. sides-told f (nth_atom i p))
+      (sides-hold (λ t. G sig ins p numbered sorted (ReflexMeets p i) (kept p i) reflex-natural t) (nth_atom i p) (atom_good sig ins p numbered sorted i))

@@ -8,7 +8,7 @@ use Rattle.am_clause.specs.declared.row.Made.{Made}
 use Rattle.am_clause.specs.Rules.{OneParent, TwoParents}
 use Rattle.am_clause.specs.Steps.{IsMadeOfOne, IsMadeOfTwo}
 use Rattle.am_rules.specs.Binding.{Binds, BindsOne, OfOne, OfTwo, of_one, of_two}
-use Rattle.am_rules.specs.Made.{IsMade, IsAnswer}
+use Rattle.am_rules.specs.Made.{IsMadeOfSuch, IsMadeIfAny}
 use Rattle.am_rules.specs.Paramodulation.{IsSortedAnswer}
 use Rattle.am_rules.specs.Inference.{TakesOne, TakesTwo, IsInferenceOfOne, IsInferenceOfTwo, AnswersOne, AnswersTwo, AnswersSorted}
 use Rattle.am_rules.proofs.Standing.{never}
@@ -62,7 +62,7 @@ module _ (sig : Signature) (ins : List SortId) (rule : OneParent) (p : Clause) (
   such-one : (ws : List (List Term)) → TakesOne sig ins rule p ws → SuchOne ws
   such-one ws t = subst SuchOne (sym t.bound_by) (tied.back t.first t.conclusion t.made)
 
-  one-inference : rule.suits p ≡ true → (m : Made) → IsMade sig ins SuchOne (of_one make) m → IsInferenceOfOne sig ins rule p m
+  one-inference : rule.suits p ≡ true → (m : Made) → IsMadeOfSuch sig ins SuchOne (of_one make) m → IsInferenceOfOne sig ins rule p m
   one-inference suits m h =
       let r : AreOne (BindsOne sig ins p Meets) m.with = are-one (BindsOne sig ins p Meets) m.with h.general.holds in
       let made : IsMadeOfOne sig ins rule p r.first m.clause =
@@ -78,11 +78,11 @@ module _ (sig : Signature) (ins : List SortId) (rule : OneParent) (p : Clause) (
         numbered = h.numbered;
       }
 
-  pub one-answer : rule.suits p ≡ true → (o : Option Made) → IsAnswer sig ins SuchOne (of_one make) o → AnswersOne sig ins rule p o
+  pub one-answer : rule.suits p ≡ true → (o : Option Made) → IsMadeIfAny sig ins SuchOne (of_one make) o → AnswersOne sig ins rule p o
   one-answer suits None h = λ ws t. h ws (such-one ws t)
   one-answer suits (Some m) h = one-inference suits m h
 
-  pub one-made : (m : Made) → IsInferenceOfOne sig ins rule p m → IsMade sig ins SuchOne (of_one make) m
+  pub one-made : (m : Made) → IsInferenceOfOne sig ins rule p m → IsMadeOfSuch sig ins SuchOne (of_one make) m
   one-made m h = record {
     general = record {
       holds = such-one m.with h.general.solves;
@@ -100,7 +100,7 @@ module _ (sig : Signature) (ins : List SortId) (rule : TwoParents) (p q : Clause
   such-two : (ws : List (List Term)) → TakesTwo sig ins rule p q ws → SuchTwo ws
   such-two ws t = subst SuchTwo (sym t.bound_by) (tied.back t.first t.second t.conclusion t.made)
 
-  two-inference : rule.suits p q ≡ true → (m : Made) → IsMade sig ins SuchTwo (of_two make) m → IsInferenceOfTwo sig ins rule p q m
+  two-inference : rule.suits p q ≡ true → (m : Made) → IsMadeOfSuch sig ins SuchTwo (of_two make) m → IsInferenceOfTwo sig ins rule p q m
   two-inference suits m h =
       let r : AreTwo (Binds sig ins p q Meets) m.with = are-two (Binds sig ins p q Meets) m.with h.general.holds in
       let made : IsMadeOfTwo sig ins rule p r.first q r.second m.clause =
@@ -117,7 +117,7 @@ module _ (sig : Signature) (ins : List SortId) (rule : TwoParents) (p q : Clause
         numbered = h.numbered;
       }
 
-  pub two-answer : rule.suits p q ≡ true → (o : Option Made) → IsAnswer sig ins SuchTwo (of_two make) o → AnswersTwo sig ins rule p q o
+  pub two-answer : rule.suits p q ≡ true → (o : Option Made) → IsMadeIfAny sig ins SuchTwo (of_two make) o → AnswersTwo sig ins rule p q o
   two-answer suits None h = λ ws t. h ws (such-two ws t)
   two-answer suits (Some m) h = two-inference suits m h
 
@@ -126,7 +126,7 @@ module _ (sig : Signature) (ins : List SortId) (rule : TwoParents) (p q : Clause
   sorted-two-answer suits None (inr h) = inr (record { inferred = h.row; inference = two-inference suits h.row h.made; unsorted = h.unsorted })
   sorted-two-answer suits (Some m) h = (two-inference suits m h.made, h.sorted)
 
-  pub two-made : (m : Made) → IsInferenceOfTwo sig ins rule p q m → IsMade sig ins SuchTwo (of_two make) m
+  pub two-made : (m : Made) → IsInferenceOfTwo sig ins rule p q m → IsMadeOfSuch sig ins SuchTwo (of_two make) m
   two-made m h = record {
     general = record {
       holds = such-two m.with h.general.solves;

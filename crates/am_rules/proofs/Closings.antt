@@ -28,7 +28,7 @@ use Rattle.am_clause.specs.declared.row.Made.{Made}
 use Rattle.am_clause.specs.Distinct.{among}
 use Rattle.am_clause.specs.Variables.{Variable, same_variable, occurrences, occurrences_all, in_answer, variables, occurrences-In, occurrences-App, occurrences-none, occurrences-more}
 use Rattle.am_clause.specs.Numbered.{IsNumbered, AreNumbered}
-use Rattle.am_clause.specs.NumberedMade.{variables_in}
+use Rattle.am_clause.specs.NumberedMade.{made_occurrences}
 use Rattle.am_clause.specs.Rules.{close}
 use Rattle.am_clause.proofs.Renames.{Within}
 use Rattle.am_clause.proofs.Places.{same_variable-refl}
@@ -160,7 +160,7 @@ module _ (sig : Signature) (ins : List SortId) (p : Clause) (numbered : IsNumber
       is = ap (clause []) (sym (answer-is xs p.answer)) ∙ ap (λ (ls : List Literal). clause (merged (map (instance_literal xs) ls)) (instance_answer xs p.answer)) (sym bare);
     };
     chosen = h.chosen;
-    numbered = none-numbered (variables_in (closed_by p xs)) all-none;
+    numbered = none-numbered (made_occurrences (closed_by p xs)) all-none;
   }
     where
       inside : Each (λ v. Within v (occurrences_all xs)) (in_answer (answer_under xs p.answer))
@@ -169,7 +169,7 @@ module _ (sig : Signature) (ins : List SortId) (p : Clause) (numbered : IsNumber
       answer-none : in_answer (answer_under xs p.answer) ≡ []
       answer-none = no-members (in_answer (answer_under xs p.answer)) (λ v m. never (subst (λ vs. among same_variable v vs ≡ true) h.none (inside v m)))
 
-      all-none : variables_in (closed_by p xs) ≡ []
+      all-none : made_occurrences (closed_by p xs) ≡ []
       all-none = ap (λ vs. vs ++ (occurrences_all xs ++ [])) answer-none ∙ ap (λ vs. vs ++ []) h.none
 
   pub closing-answer : (o : Option (List Term)) → all_chosen sig ins (variables p) ≡ o → AnswersClosing sig ins p (option_map (closed_by p) o)

@@ -7,7 +7,7 @@ use Rattle.am_clause.specs.declared.clause.Clause.{Clause}
 use Rattle.am_clause.specs.declared.row.Made.{Made}
 use Rattle.am_clause.specs.declared.row.Side.{Side}
 use Rattle.am_clause.specs.Numbered.{IsNumbered, AreNumbered}
-use Rattle.am_clause.specs.NumberedMade.{variables_in}
+use Rattle.am_clause.specs.NumberedMade.{made_occurrences}
 use Rattle.am_clause.specs.Rules.{OneParent, TwoParents, factor, reflex, resolve, para, close, rewrite}
 use Rattle.am_clause.specs.SortedClause.{is_sorted_clause}
 use Rattle.am_clause.specs.Variables.{Variable, same_variable, variables}
@@ -17,7 +17,7 @@ use Rattle.am_rules.specs.Alone.{FactorMeets, ReflexMeets, kept, factoring, refl
 use Rattle.am_rules.specs.Binding.{Binds, OfTwo, of_two}
 use Rattle.am_rules.specs.Chosen.{all_chosen, closing}
 use Rattle.am_rules.specs.Closing.{IsClosing, AnswersClosing}
-use Rattle.am_rules.specs.Conclusions.{factored, reflexed, resolved, paramodulated, closed, rewritten, factored-is, reflexed-is, resolved-is, paramodulated-is, closed-is, rewritten-is, rewriting}
+use Rattle.am_rules.specs.Conclusions.{factored, reflexed, resolved, paramodulated, closed_off, rewritten, factored-is, reflexed-is, resolved-is, paramodulated-is, closed-is, rewritten-is, rewriting}
 use Rattle.am_rules.specs.Inference.{IsInferenceOfOne, IsInferenceOfTwo, AnswersOne, AnswersTwo, AnswersSorted, AnswersRewrite, IsRewrite, IsStepOfOne, IsStepOfTwo}
 use Rattle.am_rules.specs.Paramodulation.{ParaMeets, paramodulant, paramodulation, sorted_only}
 use Rattle.am_rules.specs.Resolution.{ResolveMeets, resolvent}
@@ -63,7 +63,7 @@ module _ (sig : Signature) (ins : List SortId) (p : Clause) where
         (λ e. one-answer sig ins (reflex i) p (ReflexMeets p i) (kept p i) (reflex-tied sig ins p i) e (reflexion sig ins p i) (reflexion-answer sig ins p numbered i sorted))
         (unsuited-one sig ins (reflex i) p))
 
-  pub closed-answers : IsNumbered p → AnswersClosing sig ins p (closed sig ins p)
+  pub closed-answers : IsNumbered p → AnswersClosing sig ins p (closed_off sig ins p)
   closed-answers numbered = subst (AnswersClosing sig ins p) (sym (closed-is sig ins p))
       (by-suits (AnswersClosing sig ins p) (close.suits p) (closing sig ins p)
       (λ e. closing-answer sig ins p numbered e (all_chosen sig ins (variables p)) refl) inl)
@@ -97,7 +97,7 @@ before (y ∷ xs) ys zero x e = e
 before (y ∷ xs) ys (suc k) x e = before xs ys k x e
 
 -- a conclusion that is numbered with its lists is numbered by itself
-pub numbered-alone : (m : Made) → AreNumbered (variables_in m) → IsNumbered m.clause
+pub numbered-alone : (m : Made) → AreNumbered (made_occurrences m) → IsNumbered m.clause
 numbered-alone m h k v e = h k v
     (sym (ap (λ (vs : List Variable). slice_get vs k) (sym (with_new-is same_variable same_variable-sound same_variable-refl (variables m.clause) (in_lists m.with)) ∙ row-noted m))
     ∙ before (variables m.clause) _ k v e)
@@ -120,7 +120,7 @@ module _ (sig : Signature) (ins : List SortId) (m : Made) where
         let h : IsInferenceOfOne sig ins (reflex i) p m = subst (AnswersOne sig ins (reflex i) p) e (reflexed-answers sig ins p numbered sorted i) in
         inferred-one (reflex i) p h (alone-sorted sig ins p i (ReflexMeets p i) m numbered sorted (one-made sig ins (reflex i) p (ReflexMeets p i) (kept p i) (reflex-tied sig ins p i) m h))
 
-    pub close-step : closed sig ins p ≡ Some m → IsStepOfOne sig ins m close p
+    pub close-step : closed_off sig ins p ≡ Some m → IsStepOfOne sig ins m close p
     close-step e =
         let h : IsClosing sig ins p m = subst (AnswersClosing sig ins p) e (closed-answers sig ins p numbered) in
         record { first = h.first; bound_by = h.bound_by; made = h.made; sorted = closing-sorted sig ins p m numbered sorted h; numbered = h.numbered; clause_numbered = numbered-alone m h.numbered }

@@ -11,7 +11,7 @@ use Rattle.am_clause.specs.declared.row.Made.{Made}
 use Rattle.am_clause.specs.Distinct.{distinct}
 use Rattle.am_clause.specs.Variables.{Variable, same_variable, in_clause}
 use Rattle.am_clause.specs.Numbered.{AreNumbered}
-use Rattle.am_clause.specs.NumberedMade.{variables_in}
+use Rattle.am_clause.specs.NumberedMade.{made_occurrences}
 use Rattle.am_clause.specs.MostGeneral.{IsInstanceOf}
 use Rattle.am_clause.proofs.Renames.{Within, within-right}
 use Rattle.am_unify.specs.Substitution.{apply, apply-Var, apply-In, apply-App}
@@ -23,9 +23,9 @@ use Rattle.am_rules.proofs.Joining.{At, at-low, at-read, counted-at}
 
 module _ (sig : Signature) (ins : List SortId) where
   -- a substitution, listed
-  module _ (m : Made) (numbered : AreNumbered (variables_in m)) (us : List (List Term)) (a : AreInstances sig ins us m.with) where
+  module _ (m : Made) (numbered : AreNumbered (made_occurrences m)) (us : List (List Term)) (a : AreInstances sig ins us m.with) where
     abbrev vs : List Variable
-    vs = distinct same_variable (variables_in m)
+    vs = distinct same_variable (made_occurrences m)
 
     abbrev terms : List Term
     terms = map (λ (v : Variable). a.by v.0 v.1) vs
@@ -34,7 +34,7 @@ module _ (sig : Signature) (ins : List SortId) where
     Listed v = instance terms (Var v.0 v.1) ≡ a.by v.0 v.1
 
     at : (v : Variable) → Within v (in_lists m.with) → At vs v
-    at v h = counted-at vs numbered v (within-distinct v (variables_in m) ∙ within-right v (in_clause m.clause) (in_lists m.with) h)
+    at v h = counted-at vs numbered v (within-distinct v (made_occurrences m) ∙ within-right v (in_clause m.clause) (in_lists m.with) h)
 
     listed : (v : Variable) → Within v (in_lists m.with) → Listed v
     listed v h = instance-Var terms v.0 v.1

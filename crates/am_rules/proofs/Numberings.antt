@@ -17,27 +17,27 @@ use Rattle.am_unify.specs.Substitution.{Substitution, apply, apply-Var, apply-In
 use Rattle.am_clause.proofs.Renames.{moved, Within, within-right, within-left}
 use Rattle.am_rules.specs.Row.{row, in_lists, variables_of_made, renamed_lists}
 use Rattle.am_rules.specs.Most.{AreInstances, AreMostGeneralBySubstitution, IsUndone, AreRenamed}
-use Rattle.am_rules.specs.Made.{IsMade, IsNatural}
+use Rattle.am_rules.specs.Made.{IsMadeOfSuch, IsNatural}
 use Rattle.am_rules.proofs.Standing.{never, within-cases, lists-agree}
 use Rattle.am_rules.proofs.Uniques.{most-renamed}
 use Rattle.am_rules.proofs.RowLaws.{lists-moved, renumbered-moved, numbered-fixed, listed, variables-moved}
 use Rattle.am_rules.proofs.Orders.{apart-distinct, place-read, read-map}
-use Rattle.am_clause.specs.NumberedMade.{variables_in, renamed_made, numbered_made}
+use Rattle.am_clause.specs.NumberedMade.{made_occurrences, renamed_made, numbered_made}
 use Rattle.am_clause.specs.Numbered.{AreNumbered}
 
 module _ (sig : Signature) (ins : List SortId) (Such : List (List Term) → Type 0) (conclusion : List (List Term) → Clause) (natural : IsNatural Such conclusion) where
-  inner : (m : Made) → IsMade sig ins Such conclusion m → (v : Variable) → Within v (variables_in m) → Within v (in_lists m.with)
+  inner : (m : Made) → IsMadeOfSuch sig ins Such conclusion m → (v : Variable) → Within v (made_occurrences m) → Within v (in_lists m.with)
   inner m h v i = elim (within-cases v (in_clause m.clause) (in_lists m.with) i) [
     | inl a ↦ natural.inner m.with h.general.holds v (subst (λ c. Within v (in_clause c)) h.concluded a)
     | inr b ↦ b
   ]
 
-  pub made-unique : (m n : Made) → IsMade sig ins Such conclusion m → IsMade sig ins Such conclusion n → n ≡ m
+  pub made-unique : (m n : Made) → IsMadeOfSuch sig ins Such conclusion m → IsMadeOfSuch sig ins Such conclusion n → n ≡ m
   made-unique m n g h =
       let r : AreRenamed n.with m.with = most-renamed sig ins Such m.with n.with g.general h.general in
       let c : n.clause ≡ renamed_clause r.to m.clause = h.concluded ∙ (ap conclusion r.equal ∙ (natural.concluded r.to r.back m.with r.undone g.general.holds ∙ sym (ap (renamed_clause r.to) g.concluded))) in
       let is : n ≡ renamed_made r.to m = ap (λ x. row x n.with) c ∙ ap (row (renamed_clause r.to m.clause)) r.equal in
-      let u : IsUndone r.to r.back (variables_in m) = record { undone = λ k s i. r.undone.undone k s (inner m g (k, s) i) } in
+      let u : IsUndone r.to r.back (made_occurrences m) = record { undone = λ k s i. r.undone.undone k s (inner m g (k, s) i) } in
       sym (numbered-fixed n h.numbered) ∙ (ap numbered_made is ∙ (renumbered-moved r.to r.back m u ∙ numbered-fixed m g.numbered))
 
 -- a member of moved variables is one that was moved
@@ -106,19 +106,19 @@ number-there (w ∷ ws) (suc k) v e = number-there ws k v e
 abbrev pub back_of : Made → Numbers
 back_of m k s = number_there (variables_of_made m) k
 
-pub places-undone : (m : Made) → IsUndone (places_in (variables_of_made m)) (back_of m) (variables_in m)
+pub places-undone : (m : Made) → IsUndone (places_in (variables_of_made m)) (back_of m) (made_occurrences m)
 places-undone m = record { undone = λ n s i. number-there (variables_of_made m) (places_in (variables_of_made m) n s) (n, s) (read-place (variables_of_made m) (n, s) (listed (n, s) m i)) }
 
-pub renumbered-numbered : (m : Made) → AreNumbered (variables_in (numbered_made m))
+pub renumbered-numbered : (m : Made) → AreNumbered (made_occurrences (numbered_made m))
 unfolding numbered_made
 renumbered-numbered m k v e =
     let r : (w : Variable) × (slice_get (variables_of_made m) k ≡ Some w) × (moved (places_in (variables_of_made m)) w ≡ v) =
     read-map (moved (places_in (variables_of_made m))) (variables_of_made m) k v (sym (ap (λ (vs : List Variable). slice_get vs k) (variables-moved (places_in (variables_of_made m)) (back_of m) m (places-undone m))) ∙ e) in
-    sym (ap (λ (x : Variable). x.0) r.2) ∙ place-read (variables_of_made m) (apart-distinct (variables_in m)) k r.0 r.1
+    sym (ap (λ (x : Variable). x.0) r.2) ∙ place-read (variables_of_made m) (apart-distinct (made_occurrences m)) k r.0 r.1
 
 -- what is made of most general lists, numbered
 module _ (sig : Signature) (ins : List SortId) (Such : List (List Term) → Type 0) (conclusion : List (List Term) → Clause) (natural : IsNatural Such conclusion) where
-  pub made-numbered : (ws : List (List Term)) → AreMostGeneralBySubstitution sig ins Such ws → IsMade sig ins Such conclusion (numbered_made (row (conclusion ws) ws))
+  pub made-numbered : (ws : List (List Term)) → AreMostGeneralBySubstitution sig ins Such ws → IsMadeOfSuch sig ins Such conclusion (numbered_made (row (conclusion ws) ws))
   unfolding numbered_made
   made-numbered ws g =
       let m : Made = row (conclusion ws) ws in

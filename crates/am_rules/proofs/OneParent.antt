@@ -14,7 +14,7 @@ use Rattle.am_unify.specs.Substitution.{apply, listed}
 use Rattle.am_unify.specs.Unifier.{AreSortedUnder, Unifies, IsUnifier, IsSolved}
 use Rattle.am_unify.proofs.Solved.{mgu-solved}
 use Rattle.am_rules.specs.Binding.{BindsOne, OfOne, of_one}
-use Rattle.am_rules.specs.Made.{IsMade, IsAnswer, IsNatural}
+use Rattle.am_rules.specs.Made.{IsMadeOfSuch, IsMadeIfAny, IsNatural}
 use Rattle.am_rules.specs.Most.{AreInstances}
 use Rattle.am_rules.specs.Row.{in_lists}
 use Rattle.am_rules.specs.Asked.{Pairs}
@@ -120,13 +120,13 @@ module _ (sig : Signature) (ins : List SortId) (p : Clause) (numbered : IsNumber
           ]
       factors (us ∷ ys ∷ ws) k = absurd k
 
-      made : IsMade sig ins Such (of_one make) (made_alone p make bs)
+      made : IsMadeOfSuch sig ins Such (of_one make) (made_alone p make bs)
       made = made-numbered sig ins Such (of_one make) natural (xs ∷ []) (record { holds = such; factors = factors })
 
-    by_solution : (o : Option (List (ℕ × Term))) → IsSolved sig ins ss ps o → IsAnswer sig ins Such (of_one make) (option_map (made_alone p make) o)
+    by_solution : (o : Option (List (ℕ × Term))) → IsSolved sig ins ss ps o → IsMadeIfAny sig ins Such (of_one make) (option_map (made_alone p make) o)
     by_solution None h = no-unifier h
     by_solution (Some bs) h = made bs h
 
-  pub alone-answer : (o : Pairs) → ((f : Term → Term) → Told f f (Meets f) o) → Holding G G o → IsAnswer sig ins Such (of_one make) (solved_alone sig ins p make o)
+  pub alone-answer : (o : Pairs) → ((f : Term → Term) → Told f f (Meets f) o) → Holding G G o → IsMadeIfAny sig ins Such (of_one make) (solved_alone sig ins p make o)
   alone-answer None told hold = no-pairs told
   alone-answer (Some ps) told hold = by_solution ps told hold (mgu sig ins ps) (mgu-solved sig ins ss ps (posed ps hold))

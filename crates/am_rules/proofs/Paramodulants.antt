@@ -28,7 +28,7 @@ use Rattle.am_rules.specs.Made.{IsNatural}
 use Rattle.am_rules.specs.Parts.{literal_under, answer_under, all_but}
 use Rattle.am_rules.specs.Binding.{Binds, OfTwo, of_two}
 use Rattle.am_rules.specs.Replacing.{other_of, put_part, changed}
-use Rattle.am_rules.specs.Resolution.{atom_at}
+use Rattle.am_rules.specs.Resolution.{nth_atom}
 use Rattle.am_rules.specs.Paramodulation.{TermsMeet, side_in, other_in, part_in, ParaMeets, replaced_literals, paramodulant}
 use Rattle.am_rules.proofs.Solutions.{all-terms, atom-terms}
 use Rattle.am_rules.proofs.Standing.{Each, each-App, each-both}
@@ -95,17 +95,17 @@ Among P t = Each P (occurrences t)
 among-down : (P : Variable → Type 0) (f : SymId) (ts : List Term) → Among P (App f ts) → AllByRecursion (Among P) ts
 among-down P f ts h = all-terms P ts (each-App P f ts h)
 
-module _ (P : Variable → Type 0) (c : Clause) (here : (i : ℕ) (a : Atom) → atom_at i c ≡ Some a → Each P (in_atom a)) where
+module _ (P : Variable → Type 0) (c : Clause) (here : (i : ℕ) (a : Atom) → nth_atom i c ≡ Some a → Each P (in_atom a)) where
   pub side-each : (i : ℕ) (side : Side) (u : Term) → side_in c i side ≡ Some u → Each P (occurrences u)
-  side-each i side u e = let r : (a : Atom) × (atom_at i c ≡ Some a) × (side_of side a ≡ Some u) = then-at (atom_at i c) (side_of side) u e in
+  side-each i side u e = let r : (a : Atom) × (nth_atom i c ≡ Some a) × (side_of side a ≡ Some u) = then-at (nth_atom i c) (side_of side) u e in
       side-holds (Among P) (among-down P) side r.0 u r.2 (atom-terms P r.0 (here i r.0 r.1))
 
   pub other-each : (i : ℕ) (side : Side) (u : Term) → other_in c i side ≡ Some u → Each P (occurrences u)
-  other-each i side u e = let r : (a : Atom) × (atom_at i c ≡ Some a) × (other_of side a ≡ Some u) = then-at (atom_at i c) (other_of side) u e in
+  other-each i side u e = let r : (a : Atom) × (nth_atom i c ≡ Some a) × (other_of side a ≡ Some u) = then-at (nth_atom i c) (other_of side) u e in
       other-holds (Among P) (among-down P) side r.0 u r.2 (atom-terms P r.0 (here i r.0 r.1))
 
   pub part-each : (i : ℕ) (path : List ℕ) (u : Term) → part_in c i path ≡ Some u → Each P (occurrences u)
-  part-each i path u e = let r : (a : Atom) × (atom_at i c ≡ Some a) × (place_in path a ≡ Some u) = then-at (atom_at i c) (place_in path) u e in
+  part-each i path u e = let r : (a : Atom) × (nth_atom i c ≡ Some a) × (place_in path a ≡ Some u) = then-at (nth_atom i c) (place_in path) u e in
       part-holds (Among P) (among-down P) path r.0 u r.2 (atom-terms P r.0 (here i r.0 r.1))
 
 module _ (sig : Signature) (ins : List SortId) (p : Clause) (j : ℕ) (side : Side) (q : Clause) (i : ℕ) (path : List ℕ) (first : IsNumbered p) (second : IsNumbered q) where

@@ -12,9 +12,9 @@ use Rattle.am_clause.specs.declared.row.Made.{Made}
 use Rattle.am_clause.specs.declared.row.Side.{Side}
 use Rattle.am_clause.specs.Variables.{occurrences, variables}
 use Rattle.am_clause.specs.Numbered.{IsNumbered}
-use Rattle.am_rules.specs.Made.{IsAnswer}
+use Rattle.am_rules.specs.Made.{IsMadeIfAny}
 use Rattle.am_rules.specs.Binding.{Binds, OfTwo, of_two}
-use Rattle.am_rules.specs.Resolution.{atom_at, AnswersMeet}
+use Rattle.am_rules.specs.Resolution.{nth_atom, AnswersMeet}
 use Rattle.am_rules.specs.Paramodulation.{TermsMeet, side_in, part_in, ParaMeets, paramodulant, term_pairs, para_pairs, paramodulation, sorted_only, IsSortedAnswer}
 use Rattle.am_rules.specs.Asked.{Pairs, answer_pairs}
 use Rattle.am_rules.proofs.AskedLaws.{Told, told-as, Holding, answers-told, both-told, answers-both, both-both}
@@ -46,11 +46,11 @@ module _ (sig : Signature) (ins : List SortId) (c : Clause) (numbered : IsNumber
   good-down f ts h = all-and (HasOne sig ins) (λ t. Each (At (variables c)) (occurrences t)) ts (arguments-sorted sig ins f ts h.0) (all-terms (At (variables c)) ts (each-App (At (variables c)) f ts h.1))
 
   pub side_good : (j : ℕ) (side : Side) (t : Term) → side_in c j side ≡ Some t → G t
-  side_good j side t e = let r : (a : Atom) × (atom_at j c ≡ Some a) × (side_of side a ≡ Some t) = then-at (atom_at j c) (side_of side) t e in
+  side_good j side t e = let r : (a : Atom) × (nth_atom j c ≡ Some a) × (side_of side a ≡ Some t) = then-at (nth_atom j c) (side_of side) t e in
       side-holds G good-down side r.0 t r.2 (atom_good sig ins c numbered sorted j r.0 r.1)
 
   pub part_good : (i : ℕ) (path : List ℕ) (t : Term) → part_in c i path ≡ Some t → G t
-  part_good i path t e = let r : (a : Atom) × (atom_at i c ≡ Some a) × (place_in path a ≡ Some t) = then-at (atom_at i c) (place_in path) t e in
+  part_good i path t e = let r : (a : Atom) × (nth_atom i c ≡ Some a) × (place_in path a ≡ Some t) = then-at (nth_atom i c) (place_in path) t e in
       part-holds G good-down path r.0 t r.2 (atom_good sig ins c numbered sorted i r.0 r.1)
 
 module _ (sig : Signature) (ins : List SortId) (p : Clause) (j : ℕ) (side : Side) (q : Clause) (i : ℕ) (path : List ℕ) (first : IsNumbered p) (second : IsNumbered q)
@@ -75,12 +75,12 @@ module _ (sig : Signature) (ins : List SortId) (p : Clause) (j : ℕ) (side : Si
       (terms-both LeftGood RightGood (side_in p j side) (part_in q i path) (side_good sig ins p first left_sorted j side) (part_good sig ins q second right_sorted i path))
       (answers-both LeftGood RightGood p.answer q.answer (answer_good sig ins p first left_sorted) (answer_good sig ins q second right_sorted))
 
-  pub paramodulation-answer : IsAnswer sig ins (OfTwo (Binds sig ins p q (ParaMeets p j side q i path))) (of_two (paramodulant p j side q i path)) (paramodulation sig ins p j side q i path)
+  pub paramodulation-answer : IsMadeIfAny sig ins (OfTwo (Binds sig ins p q (ParaMeets p j side q i path))) (of_two (paramodulant p j side q i path)) (paramodulation sig ins p j side q i path)
   paramodulation-answer = by_pairs sig ins p q first second left_sorted right_sorted (ParaMeets p j side q i path) (paramodulant p j side q i path) (para-natural sig ins p j side q i path first second)
       pairs told holding
 
 -- what is made and well sorted
-pub sorted-answer : (sig : Signature) (ins : List SortId) (Such : List (List Term) → Type 0) (conclusion : List (List Term) → Clause) (o : Option Made) → IsAnswer sig ins Such conclusion o → IsSortedAnswer sig ins Such conclusion (sorted_only sig ins o)
+pub sorted-answer : (sig : Signature) (ins : List SortId) (Such : List (List Term) → Type 0) (conclusion : List (List Term) → Clause) (o : Option Made) → IsMadeIfAny sig ins Such conclusion o → IsSortedAnswer sig ins Such conclusion (sorted_only sig ins o)
 sorted-answer sig ins Such conclusion None h = inl h
 sorted-answer sig ins Such conclusion (Some m) h = by (is_sorted_clause sig ins m.clause) refl
   where

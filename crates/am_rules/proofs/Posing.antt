@@ -21,7 +21,7 @@ use Rattle.am_unify.specs.Occurrence.{has_given_sorts, has_given_sorts-Var, has_
 use Rattle.am_unify.proofs.Instances.{given_sort}
 use Rattle.am_unify.proofs.Keeping.{place-some, sort_of-valid}
 use Rattle.am_rules.specs.Parts.{answer_terms}
-use Rattle.am_rules.specs.Resolution.{atom_at}
+use Rattle.am_rules.specs.Resolution.{nth_atom}
 use Rattle.am_rules.proofs.Standing.{never, one-var, Each, each-Var, each-App, each-both, each-head, each-tail, each-more}
 use Rattle.am_term.specs.Parts.{parts_of}
 use Rattle.am_term.specs.Place.{member}
@@ -144,7 +144,7 @@ module _ (sig : Signature) (ins : List SortId) where
     at (suc zero) (l ∷ ls) h a e = let is : l.atom ≡ a = cc in subst (λ x. AllByRecursion HasOne (parts_of x)) is (atom-sorted l.atom (and_left (is_sorted_literal sig ins l) (list_all (is_sorted_literal sig ins) ls) h))
     at (suc (suc i)) (l ∷ ls) h a e = at (suc i) ls (and_right (is_sorted_literal sig ins l) (list_all (is_sorted_literal sig ins) ls) h) a e
 
-    pub atoms-sorted : (i : ℕ) (a : Atom) → atom_at i c ≡ Some a → AllByRecursion HasOne (parts_of a)
+    pub atoms-sorted : (i : ℕ) (a : Atom) → nth_atom i c ≡ Some a → AllByRecursion HasOne (parts_of a)
     atoms-sorted i = at i c.literals literals-sorted
 
     pub clause-valid : Each Valid (in_clause c)

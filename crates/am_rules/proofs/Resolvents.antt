@@ -19,7 +19,7 @@ use Rattle.am_rules.specs.Row.{in_lists, renamed_lists}
 use Rattle.am_rules.specs.Most.{IsUndone}
 use Rattle.am_rules.specs.Made.{IsNatural}
 use Rattle.am_rules.specs.Parts.{map_atom, literal_under, answer_under, all_but}
-use Rattle.am_rules.specs.Resolution.{atom_at, AtomsMeet, AnswersMeet, ResolveMeets, resolved_literals, resolvent}
+use Rattle.am_rules.specs.Resolution.{nth_atom, AtomsMeet, AnswersMeet, ResolveMeets, resolved_literals, resolvent}
 use Rattle.am_rules.specs.Binding.{Binds, OfTwo, of_two}
 use Rattle.am_rules.proofs.Standing.{Each, each-left, each-right, each-both}
 use Rattle.am_rules.proofs.Lifts.{EachAtom, clause, all-by, atom-by, literals-by, answer-by, literals-inner, answer-inner, all-after, atom-after, literals-after, answer-after, renamed-literals, renamed-answer, literals-each, each-literals, all-without, all-append, all-weaker}
@@ -64,7 +64,7 @@ module _ (c : Clause) (numbered : IsNumbered c) (xs : List Term) (long : length 
   pub answer-below : Each (Below (length xs)) (in_answer c.answer)
   answer-below = each-right (Below (length xs)) (in_literals c.literals) (in_answer c.answer) below
 
-  pub atom-below : (i : ℕ) (a : Atom) → atom_at i c ≡ Some a → Each (Below (length xs)) (in_atom a)
+  pub atom-below : (i : ℕ) (a : Atom) → nth_atom i c ≡ Some a → Each (Below (length xs)) (in_atom a)
   atom-below i = atom-each (Below (length xs)) i c.literals literals-below
 
   pub literals-part : (to : Numbers) (i : ℕ) → map (literal_under (renamed_all to xs)) (all_but i c.literals) ≡ map (renamed_literal to) (map (literal_under xs) (all_but i c.literals))
@@ -130,7 +130,7 @@ module _ (sig : Signature) (ins : List SortId) (p : Clause) (i : ℕ) (q : Claus
         right = subst (λ os. fit_places sig os (sorts_in q) ≡ true) (sym (sorts-renamed sig ins to ys)) such.right;
         meets = record {
           atoms = atoms-after (instance xs) (instance ys) (instance (renamed_all to xs)) (instance (renamed_all to ys)) (renamed to) (Below (length xs)) (Below (length ys)) (instance-renamed to xs) (instance-renamed to ys)
-              (atom_at i p) (atom_at j q) (atom-below p first xs left_long i) (atom-below q second ys right_long j) such.meets.atoms;
+              (nth_atom i p) (nth_atom j q) (atom-below p first xs left_long i) (atom-below q second ys right_long j) such.meets.atoms;
           answers = answers-after (instance xs) (instance ys) (instance (renamed_all to xs)) (instance (renamed_all to ys)) (renamed to) (Below (length xs)) (Below (length ys)) (instance-renamed to xs) (instance-renamed to ys)
               p.answer q.answer (answer-below p first xs left_long) (answer-below q second ys right_long) such.meets.answers;
         };

@@ -18,7 +18,7 @@ use Rattle.am_clause.specs.declared.row.Side.{Side}
 use Rattle.am_clause.specs.Bound.{bound}
 use Rattle.am_clause.specs.MostGeneral.{conclusion_of}
 use Rattle.am_clause.specs.Numbered.{IsNumbered, AreNumbered}
-use Rattle.am_clause.specs.NumberedMade.{variables_in, numbered_made}
+use Rattle.am_clause.specs.NumberedMade.{made_occurrences, numbered_made}
 use Rattle.am_clause.specs.Renaming.{Numbers, places_in}
 use Rattle.am_clause.specs.Rules.{para, rewrite, part_at, are_one}
 use Rattle.am_clause.specs.SortedClause.{is_sorted_clause, are_bindings}
@@ -126,7 +126,7 @@ module _ (sig : Signature) (ins : List SortId) (c : Clause) (numbered : IsNumber
 pub record IsNumberedSuch (Such : List (List Term) → Type 0) (conclusion : List (List Term) → Clause) (m : Made) : Type 0 where
   pub holds : Such m.with
   pub concluded : m.clause ≡ conclusion m.with
-  pub numbered : AreNumbered (variables_in m)
+  pub numbered : AreNumbered (made_occurrences m)
 
 pub such-numbered : (Such : List (List Term) → Type 0) (conclusion : List (List Term) → Clause) → IsNatural Such conclusion → (ws : List (List Term)) → Such ws → IsNumberedSuch Such conclusion (numbered_made (row (conclusion ws) ws))
 unfolding numbered_made

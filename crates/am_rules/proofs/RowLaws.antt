@@ -18,7 +18,7 @@ use Rattle.am_clause.proofs.Renames.{moved, Within, terms-moved, clause-moved, c
 use Rattle.am_rules.specs.Row.{row, in_lists, variables_of_made, renamed_lists}
 use Rattle.am_rules.specs.Most.{IsUndone}
 use Rattle.am_rules.proofs.Standing.{Each, each-left, each-right, lists-agree}
-use Rattle.am_clause.specs.NumberedMade.{variables_in, renamed_made, numbered_made}
+use Rattle.am_clause.specs.NumberedMade.{made_occurrences, renamed_made, numbered_made}
 use Rattle.am_clause.specs.Numbered.{AreNumbered}
 
 -- which variables there are
@@ -26,7 +26,7 @@ pub lists-moved : (to : Numbers) (ws : List (List Term)) → in_lists (renamed_l
 lists-moved to [] = refl
 lists-moved to (w ∷ ws) = ap (λ vs. vs ++ in_lists (renamed_lists to ws)) (terms-moved to w) ∙ (ap (λ vs. map (moved to) (occurrences_all w) ++ vs) (lists-moved to ws) ∙ sym (map-append (moved to) (occurrences_all w) (in_lists ws)))
 
-pub made-moved : (to : Numbers) (m : Made) → variables_in (renamed_made to m) ≡ map (moved to) (variables_in m)
+pub made-moved : (to : Numbers) (m : Made) → made_occurrences (renamed_made to m) ≡ map (moved to) (made_occurrences m)
 made-moved to m = ap (λ vs. vs ++ in_lists (renamed_lists to m.with)) (clause-moved to m.clause) ∙ (ap (λ vs. map (moved to) (in_clause m.clause) ++ vs) (lists-moved to m.with) ∙ sym (map-append (moved to) (in_clause m.clause) (in_lists m.with)))
 
 -- renaming twice
@@ -42,7 +42,7 @@ made-twice : (second first : Numbers) (m : Made) → renamed_made second (rename
 made-twice second first m = ap (λ c. row c (renamed_lists second (renamed_lists first m.with))) (clause-twice second first m.clause) ∙ ap (row (renamed_clause (after second first) m.clause)) (lists-twice second first m.with)
 
 -- numbers that agree where the variables are
-made-agrees : (to from : Numbers) (m : Made) → Each (λ v. to v.0 v.1 ≡ from v.0 v.1) (variables_in m) → renamed_made to m ≡ renamed_made from m
+made-agrees : (to from : Numbers) (m : Made) → Each (λ v. to v.0 v.1 ≡ from v.0 v.1) (made_occurrences m) → renamed_made to m ≡ renamed_made from m
 made-agrees to from m h =
     ap (λ c. row c (renamed_lists to m.with)) (clause-agrees to from m.clause (each-left (λ v. to v.0 v.1 ≡ from v.0 v.1) (in_clause m.clause) (in_lists m.with) h))
     ∙ ap (row (renamed_clause from m.clause)) (lists-agree (renamed to) (renamed from) (λ v. to v.0 v.1 ≡ from v.0 v.1)
@@ -100,19 +100,19 @@ module _ (to back : Numbers) (vs : List Variable) (u : IsUndone to back vs) wher
 
 -- the laws
 
-module _ (to back : Numbers) (m : Made) (u : IsUndone to back (variables_in m)) where
+module _ (to back : Numbers) (m : Made) (u : IsUndone to back (made_occurrences m)) where
   pub variables-moved : variables_of_made (renamed_made to m) ≡ map (moved to) (variables_of_made m)
-  variables-moved = ap (distinct same_variable) (made-moved to m) ∙ distinct-moved to back (variables_in m) u
+  variables-moved = ap (distinct same_variable) (made-moved to m) ∙ distinct-moved to back (made_occurrences m) u
 
   pub renumbered-moved : numbered_made (renamed_made to m) ≡ numbered_made m
   unfolding numbered_made
   renumbered-moved = made-twice (places_in (variables_of_made (renamed_made to m))) to m
       ∙ made-agrees (after (places_in (variables_of_made (renamed_made to m))) to) (places_in (variables_of_made m)) m
-      (λ v h. ap (λ (vs : List Variable). places_in (distinct same_variable vs) (to v.0 v.1) v.1) (made-moved to m) ∙ place-moved to back (variables_in m) u v h)
+      (λ v h. ap (λ (vs : List Variable). places_in (distinct same_variable vs) (to v.0 v.1) v.1) (made-moved to m) ∙ place-moved to back (made_occurrences m) u v h)
 
-pub listed : (v : Variable) (m : Made) → Within v (variables_in m) → Within v (variables_of_made m)
-listed v m h = within-distinct v (variables_in m) ∙ h
+pub listed : (v : Variable) (m : Made) → Within v (made_occurrences m) → Within v (variables_of_made m)
+listed v m h = within-distinct v (made_occurrences m) ∙ h
 
-pub numbered-fixed : (m : Made) → AreNumbered (variables_in m) → numbered_made m ≡ m
+pub numbered-fixed : (m : Made) → AreNumbered (made_occurrences m) → numbered_made m ≡ m
 unfolding numbered_made
 numbered-fixed m h = made-agrees (places_in (variables_of_made m)) itself m (λ v i. sym (h (places_in (variables_of_made m) v.0 v.1) v (read-place (variables_of_made m) v (listed v m i)))) ∙ made-itself m

@@ -16,10 +16,10 @@ use Rattle.am_unify.specs.Mgu.{mgu}
 use Rattle.am_unify.specs.Unifier.{IsSolved, IsUnifier}
 use Rattle.am_unify.specs.Substitution.{applies}
 use Rattle.am_unify.proofs.Solved.{mgu-solved}
-use Rattle.am_rules.specs.Made.{IsMade, IsAnswer, IsNatural}
+use Rattle.am_rules.specs.Made.{IsMadeOfSuch, IsMadeIfAny, IsNatural}
 use Rattle.am_rules.specs.Most.{AreInstances}
 use Rattle.am_rules.specs.Parts.{answer_terms}
-use Rattle.am_rules.specs.Resolution.{atom_at}
+use Rattle.am_rules.specs.Resolution.{nth_atom}
 use Rattle.am_rules.specs.Binding.{Binds, OfTwo, of_two}
 use Rattle.am_rules.specs.Asked.{Pairs}
 use Rattle.am_rules.specs.Solving.{apart, images, solved_apart, made_with_bindings}
@@ -58,7 +58,7 @@ module _ (sig : Signature) (ins : List SortId) (c : Clause) (numbered : IsNumber
   abbrev pub Good : Term → Type 0
   Good t = HasOne sig ins t × Each (At (variables c)) (occurrences t)
 
-  pub atom_good : (i : ℕ) (a : Atom) → atom_at i c ≡ Some a → AllByRecursion Good (parts_of a)
+  pub atom_good : (i : ℕ) (a : Atom) → nth_atom i c ≡ Some a → AllByRecursion Good (parts_of a)
   atom_good i a e = all-and (HasOne sig ins) (λ t. Each (At (variables c)) (occurrences t)) (parts_of a) (atoms-sorted sig ins c sorted i a e)
       (atom-terms (At (variables c)) a (atom-each (At (variables c)) i c.literals (literals-each (At (variables c)) c.literals (each-left (At (variables c)) (in_literals c.literals) (in_answer c.answer) each_at)) a e))
 
@@ -140,15 +140,15 @@ module _ (sig : Signature) (ins : List SortId) (p q : Clause) (first : IsNumbere
           }
       factors (us ∷ vs ∷ zs ∷ ws) k = absurd k
 
-      made : IsMade sig ins Such (of_two make) (made_with_bindings p q make bs)
+      made : IsMadeOfSuch sig ins Such (of_two make) (made_with_bindings p q make bs)
       made = made-numbered sig ins Such (of_two make) natural (xs ∷ ys ∷ []) (record { holds = such; factors = factors })
 
-    by_solution : (o : Option (List (ℕ × Term))) → IsSolved sig ins ss (apart (length (variables p)) ps) o → IsAnswer sig ins Such (of_two make) (option_map (made_with_bindings p q make) o)
+    by_solution : (o : Option (List (ℕ × Term))) → IsSolved sig ins ss (apart (length (variables p)) ps) o → IsMadeIfAny sig ins Such (of_two make) (option_map (made_with_bindings p q make) o)
     by_solution None h = no-unifier h
     by_solution (Some bs) h = made bs h
 
   pub by_pairs : (o : Pairs) → ((f g : Term → Term) → Told f g (Meets f g) o) → Holding S T o
-      → IsAnswer sig ins Such (of_two make) (option_map (made_with_bindings p q make) (solved_apart sig ins (length (variables p)) o))
+      → IsMadeIfAny sig ins Such (of_two make) (option_map (made_with_bindings p q make) (solved_apart sig ins (length (variables p)) o))
   by_pairs None told hold = no-pairs told
   by_pairs (Some ps) told hold = by_solution ps told hold (mgu sig ins (apart (length (variables p)) ps))
       (mgu-solved sig ins (ss ps told hold) (apart (length (variables p)) ps) (apart-posed sig ins (variables p) (variables q) first second ps hold))

@@ -25,7 +25,7 @@ use Rattle.am_clause.proofs.Bijections.{listed}
 use Rattle.am_clause.proofs.Renames.{Within, within-left, within-right}
 use Rattle.am_unify.proofs.Keeping.{place-some}
 use Rattle.am_clause.specs.declared.row.Made.{Made}
-use Rattle.am_rules.specs.Made.{IsMade}
+use Rattle.am_rules.specs.Made.{IsMadeOfSuch}
 use Rattle.am_rules.specs.Binding.{Binds, BindsOne, OfOne, OfTwo, of_one, of_two}
 use Rattle.am_rules.specs.Parts.{answer_terms, atom_under, literal_under, answer_under, all_but}
 use Rattle.am_rules.specs.Resolution.{ResolveMeets, resolved_literals, resolvent}
@@ -163,7 +163,7 @@ resolvent-sorted sig ins p i q j a b d e xs ys h =
 
 -- what is made is well sorted
 pub resolved-sorted : (sig : Signature) (ins : List SortId) (p : Clause) (i : ℕ) (q : Clause) (j : ℕ) (m : Made) → IsNumbered p → IsNumbered q → is_sorted_clause sig ins p ≡ true → is_sorted_clause sig ins q ≡ true
-    → IsMade sig ins (OfTwo (Binds sig ins p q (ResolveMeets p i q j))) (of_two (resolvent p i q j)) m → is_sorted_clause sig ins m.clause ≡ true
+    → IsMadeOfSuch sig ins (OfTwo (Binds sig ins p q (ResolveMeets p i q j))) (of_two (resolvent p i q j)) m → is_sorted_clause sig ins m.clause ≡ true
 resolved-sorted sig ins p i q j m a b d e h = subst (λ c. is_sorted_clause sig ins c ≡ true) (sym h.concluded) (by m.with h.general.holds)
   where
     by : (ws : List (List Term)) → OfTwo (Binds sig ins p q (ResolveMeets p i q j)) ws → is_sorted_clause sig ins (of_two (resolvent p i q j) ws) ≡ true
@@ -173,7 +173,7 @@ resolved-sorted sig ins p i q j m a b d e h = subst (λ c. is_sorted_clause sig 
     by (xs ∷ ys ∷ zs ∷ ws) k = absurd k
 
 pub alone-sorted : (sig : Signature) (ins : List SortId) (p : Clause) (i : ℕ) (Meets : (Term → Term) → Type 0) (m : Made) → IsNumbered p → is_sorted_clause sig ins p ≡ true
-    → IsMade sig ins (OfOne (BindsOne sig ins p Meets)) (of_one (kept p i)) m → is_sorted_clause sig ins m.clause ≡ true
+    → IsMadeOfSuch sig ins (OfOne (BindsOne sig ins p Meets)) (of_one (kept p i)) m → is_sorted_clause sig ins m.clause ≡ true
 alone-sorted sig ins p i Meets m a d h = subst (λ c. is_sorted_clause sig ins c ≡ true) (sym h.concluded) (by m.with h.general.holds)
   where
     by : (ws : List (List Term)) → OfOne (BindsOne sig ins p Meets) ws → is_sorted_clause sig ins (of_one (kept p i) ws) ≡ true

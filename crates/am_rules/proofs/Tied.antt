@@ -17,7 +17,7 @@ use Rattle.am_clause.specs.Merge.{merged}
 use Rattle.am_clause.specs.Bound.{instance_answer}
 use Rattle.am_clause.specs.Rules.{factor, reflex, resolve, have_one_atom, equates_sides, go_together, shared}
 use Rattle.am_rules.specs.Parts.{map_atom, map_literal, map_answer, all_but}
-use Rattle.am_rules.specs.Resolution.{atom_at, AtomsMeet, AnswersMeet, ResolveMeets, resolved_literals, resolvent}
+use Rattle.am_rules.specs.Resolution.{nth_atom, AtomsMeet, AnswersMeet, ResolveMeets, resolved_literals, resolvent}
 use Rattle.am_rules.specs.Alone.{SidesMeet, FactorMeets, ReflexMeets, kept}
 use Rattle.am_rules.proofs.Standing.{never}
 use Rattle.am_rules.proofs.Lifts.{literal, clause}
@@ -100,13 +100,13 @@ module _ (xs ys : List Term) where
   abbrev OneAtom : Option Literal → Option Literal → Type 0
   OneAtom o u = have_one_atom o u ≡ true
 
-  pub one-atom : (c d : Clause) (i j : ℕ) → Meeting (atom_at i c) (atom_at j d) → OneAtom (member (map (instance_literal xs) c.literals) i) (member (map (instance_literal ys) d.literals) j)
+  pub one-atom : (c d : Clause) (i j : ℕ) → Meeting (nth_atom i c) (nth_atom j d) → OneAtom (member (map (instance_literal xs) c.literals) i) (member (map (instance_literal ys) d.literals) j)
   one-atom c d i j h =
       subst (λ o. OneAtom o (member (map (instance_literal ys) d.literals) j)) (sym (member-is xs i c.literals))
       (subst (OneAtom (option_map (instance_literal xs) (member c.literals i))) (sym (member-is ys j d.literals))
       (atoms-there (member c.literals i) (member d.literals j) h))
 
-  pub atom-one : (c d : Clause) (i j : ℕ) → OneAtom (member (map (instance_literal xs) c.literals) i) (member (map (instance_literal ys) d.literals) j) → Meeting (atom_at i c) (atom_at j d)
+  pub atom-one : (c d : Clause) (i j : ℕ) → OneAtom (member (map (instance_literal xs) c.literals) i) (member (map (instance_literal ys) d.literals) j) → Meeting (nth_atom i c) (nth_atom j d)
   atom-one c d i j h =
       atoms-back (member c.literals i) (member d.literals j)
       (subst (λ o. OneAtom o (option_map (instance_literal ys) (member d.literals j))) (member-is xs i c.literals)

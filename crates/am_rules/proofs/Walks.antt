@@ -26,7 +26,7 @@ use Rattle.am_clause.proofs.Firsts.{with_new-distinct}
 use Rattle.am_clause.proofs.Places.{same_variable-sound, same_variable-refl, place-found, place-passed, place-end, place-within, noted-old, noted-new, noted-none, noted-both, terms-noted}
 use Rattle.am_term.proofs.Sorted.{sorting}
 use Rattle.am_rules.specs.Row.{in_lists, variables_of_made}
-use Rattle.am_clause.specs.NumberedMade.{variables_in, renamed_made, numbered_made}
+use Rattle.am_clause.specs.NumberedMade.{made_occurrences, renamed_made, numbered_made}
 
 pub ruleset instancing = (common_steps, nat_tests, the_lemmas, instance_laws)
 
@@ -83,7 +83,7 @@ pub row-noted : (m : Made) → with_new same_variable (variables m.clause) (in_l
 unfolding variables
 row-noted m =
     ap (λ (vs : List Variable). with_new same_variable vs (in_lists m.with)) (sym (with_new-distinct same_variable same_variable-sound same_variable-refl (in_clause m.clause)))
-    ∙ (sym (noted-both [] (in_clause m.clause) (in_lists m.with)) ∙ with_new-distinct same_variable same_variable-sound same_variable-refl (variables_in m))
+    ∙ (sym (noted-both [] (in_clause m.clause) (in_lists m.with)) ∙ with_new-distinct same_variable same_variable-sound same_variable-refl (made_occurrences m))
 
 pub ruleset row_collecting = (common_steps, row-noted)
 

@@ -12,14 +12,14 @@ use Rattle.am_clause.specs.Variables.{variables}
 use Rattle.am_unify.specs.Mgu.{mgu}
 use Rattle.am_rules.specs.Asked.{Pairs, asked}
 use Rattle.am_rules.specs.Parts.{literal_under, answer_under, all_but}
-use Rattle.am_rules.specs.Resolution.{atom_at, AtomsMeet}
+use Rattle.am_rules.specs.Resolution.{nth_atom, AtomsMeet}
 use Rattle.am_rules.specs.Row.{row}
 use Rattle.am_rules.specs.Solving.{images}
 use Rattle.am_clause.specs.NumberedMade.{numbered_made}
 
 -- atoms i and j become one
 abbrev pub FactorMeets : Clause → ℕ → ℕ → (Term → Term) → Type 0
-FactorMeets p i j f = AtomsMeet f f (atom_at i p) (atom_at j p)
+FactorMeets p i j f = AtomsMeet f f (nth_atom i p) (nth_atom j p)
 
 -- the sides of the equation become one
 abbrev pub SidesMeet : (Term → Term) → Option Atom → Type 0
@@ -28,7 +28,7 @@ SidesMeet f (Some (Rel r args)) = ⊥
 SidesMeet f (Some (Eq left right)) = f left ≡ f right
 
 abbrev pub ReflexMeets : Clause → ℕ → (Term → Term) → Type 0
-ReflexMeets p i f = SidesMeet f (atom_at i p)
+ReflexMeets p i f = SidesMeet f (nth_atom i p)
 
 -- the clause without its i-th literal, or with all where i is 0
 abbrev pub kept : Clause → ℕ → List Term → Clause
@@ -46,7 +46,7 @@ abbrev pub solved_alone : Signature → List SortId → Clause → (List Term �
 solved_alone sig ins p make ps = option_map (made_alone p make) (option_and_then (mgu sig ins) ps)
 
 abbrev pub factoring : Signature → List SortId → Clause → ℕ → ℕ → Option Made
-factoring sig ins p i j = solved_alone sig ins p (kept p 0) (asked (atom_at i p) (atom_at j p) None None)
+factoring sig ins p i j = solved_alone sig ins p (kept p 0) (asked (nth_atom i p) (nth_atom j p) None None)
 
 abbrev pub reflexion : Signature → List SortId → Clause → ℕ → Option Made
-reflexion sig ins p i = solved_alone sig ins p (kept p i) (sides (atom_at i p))
+reflexion sig ins p i = solved_alone sig ins p (kept p i) (sides (nth_atom i p))

@@ -15,7 +15,7 @@ use Rattle.am_clause.specs.declared.row.Made.{Made}
 use Rattle.am_clause.specs.Distinct.{among}
 use Rattle.am_clause.specs.Variables.{Variable, same_variable, in_clause, variables}
 use Rattle.am_clause.specs.Numbered.{AreNumbered}
-use Rattle.am_clause.specs.NumberedMade.{variables_in}
+use Rattle.am_clause.specs.NumberedMade.{made_occurrences}
 use Rattle.am_clause.specs.Rules.{close}
 use Rattle.am_clause.specs.Steps.{IsMadeOfOne}
 
@@ -44,7 +44,7 @@ pub record IsClosing (sig : Signature) (ins : List SortId) (p : Clause) (m : Mad
   pub bound_by : m.with ≡ first ∷ []
   pub made : IsMadeOfOne sig ins close p first m.clause
   pub chosen : map (λ (v : Variable). closing_term sig ins v.1) (variables p) ≡ map Some first
-  pub numbered : AreNumbered (variables_in m)
+  pub numbered : AreNumbered (made_occurrences m)
 
 -- a variable of the clause becomes nothing
 pub record HasOpen (sig : Signature) (ins : List SortId) (p : Clause) : Type 0 where

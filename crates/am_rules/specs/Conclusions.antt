@@ -57,11 +57,11 @@ paramodulated-is sig ins p j side q i path = refl
 
 -- the answer of p, which has no literals, with the first fitting input for each variable, else the first fitting
 -- computable constant
-unfoldable pub closed : Signature → List SortId → Clause → Option Made
-closed sig ins p = if close.suits p then closing sig ins p else None
+unfoldable pub closed_off : Signature → List SortId → Clause → Option Made
+closed_off sig ins p = if close.suits p then closing sig ins p else None
 
-pub closed-is : (sig : Signature) (ins : List SortId) (p : Clause) → closed sig ins p ≡ (if close.suits p then closing sig ins p else None)
-unfolding closed
+pub closed-is : (sig : Signature) (ins : List SortId) (p : Clause) → closed_off sig ins p ≡ (if close.suits p then closing sig ins p else None)
+unfolding closed_off
 closed-is sig ins p = refl
 
 -- what these bindings of p's variables make of p and q, of which q keeps its own variables; a variable of p that isn't

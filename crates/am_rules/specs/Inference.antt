@@ -12,7 +12,7 @@ use Rattle.am_clause.specs.declared.row.Side.{Side}
 use Rattle.am_clause.specs.Bound.{bound}
 use Rattle.am_clause.specs.SortedClause.{are_bindings}
 use Rattle.am_clause.specs.Numbered.{IsNumbered, AreNumbered}
-use Rattle.am_clause.specs.NumberedMade.{variables_in, numbered_made}
+use Rattle.am_clause.specs.NumberedMade.{made_occurrences, numbered_made}
 use Rattle.am_clause.specs.MostGeneral.{AreMostGeneral, conclusion_of}
 use Rattle.am_clause.specs.Rules.{OneParent, TwoParents, rewrite}
 use Rattle.am_clause.specs.Variables.{variables}
@@ -37,7 +37,7 @@ module _ (sig : Signature) (ins : List SortId) (rule : OneParent) (p : Clause) w
     pub bound_by : m.with ≡ first ∷ []
     pub made : IsMadeOfOne sig ins rule p first m.clause
     pub general : AreMostGeneral sig ins TakesOne m.with
-    pub numbered : AreNumbered (variables_in m)
+    pub numbered : AreNumbered (made_occurrences m)
 
   -- an inference, and none exactly where the rule takes no lists
   abbrev pub AnswersOne : Option Made → Type 0
@@ -60,7 +60,7 @@ module _ (sig : Signature) (ins : List SortId) (rule : TwoParents) (p q : Clause
     pub bound_by : m.with ≡ first ∷ second ∷ []
     pub made : IsMadeOfTwo sig ins rule p first q second m.clause
     pub general : AreMostGeneral sig ins TakesTwo m.with
-    pub numbered : AreNumbered (variables_in m)
+    pub numbered : AreNumbered (made_occurrences m)
 
   -- an inference, and none exactly where the rule takes no lists
   abbrev pub AnswersTwo : Option Made → Type 0
@@ -95,7 +95,7 @@ module _ (sig : Signature) (ins : List SortId) (p : Clause) (side : Side) (q : C
     pub second : List Term
     pub bound_by : m.with ≡ first ∷ second ∷ []
     pub made : IsMadeOfTwo sig ins (rewrite 1 side i path) p first q second m.clause
-    pub numbered : AreNumbered (variables_in m)
+    pub numbered : AreNumbered (made_occurrences m)
 
   -- a rewrite has a conclusion that isn't well sorted
   pub record RewritesUnsorted : Type 0 where
@@ -117,7 +117,7 @@ module _ (sig : Signature) (ins : List SortId) (m : Made) where
     pub bound_by : m.with ≡ first ∷ []
     pub made : IsMadeOfOne sig ins rule p first m.clause
     pub sorted : IsTrue (is_sorted_clause sig ins m.clause)
-    pub numbered : AreNumbered (variables_in m)
+    pub numbered : AreNumbered (made_occurrences m)
     pub clause_numbered : IsNumbered m.clause
 
   pub record IsStepOfTwo (rule : TwoParents) (p q : Clause) : Type 0 where
@@ -126,5 +126,5 @@ module _ (sig : Signature) (ins : List SortId) (m : Made) where
     pub bound_by : m.with ≡ first ∷ second ∷ []
     pub made : IsMadeOfTwo sig ins rule p first q second m.clause
     pub sorted : IsTrue (is_sorted_clause sig ins m.clause)
-    pub numbered : AreNumbered (variables_in m)
+    pub numbered : AreNumbered (made_occurrences m)
     pub clause_numbered : IsNumbered m.clause

@@ -10,18 +10,18 @@ use Rattle.am_clause.specs.Renaming.{Numbers, renamed_clause}
 use Rattle.am_rules.specs.Most.{AreMostGeneralBySubstitution, IsUndone, IsAmong}
 use Rattle.am_rules.specs.Row.{in_lists, renamed_lists}
 use Rattle.am_clause.specs.Numbered.{AreNumbered}
-use Rattle.am_clause.specs.NumberedMade.{variables_in}
+use Rattle.am_clause.specs.NumberedMade.{made_occurrences}
 
 -- `Such` says which lists of terms a rule takes, and `conclusion` what it makes of them
-pub record IsMade (sig : Signature) (ins : List SortId) (Such : List (List Term) → Type 0) (conclusion : List (List Term) → Clause) (m : Made) : Type 0 where
+pub record IsMadeOfSuch (sig : Signature) (ins : List SortId) (Such : List (List Term) → Type 0) (conclusion : List (List Term) → Clause) (m : Made) : Type 0 where
   pub general : AreMostGeneralBySubstitution sig ins Such m.with
   pub concluded : m.clause ≡ conclusion m.with
-  pub numbered : AreNumbered (variables_in m)
+  pub numbered : AreNumbered (made_occurrences m)
 
 -- an answer: no lists are such, or what is made
-abbrev pub IsAnswer : Signature → List SortId → (List (List Term) → Type 0) → (List (List Term) → Clause) → Option Made → Type 0
-IsAnswer sig ins Such conclusion None = (ws : List (List Term)) → Such ws → ⊥
-IsAnswer sig ins Such conclusion (Some m) = IsMade sig ins Such conclusion m
+abbrev pub IsMadeIfAny : Signature → List SortId → (List (List Term) → Type 0) → (List (List Term) → Clause) → Option Made → Type 0
+IsMadeIfAny sig ins Such conclusion None = (ws : List (List Term)) → Such ws → ⊥
+IsMadeIfAny sig ins Such conclusion (Some m) = IsMadeOfSuch sig ins Such conclusion m
 
 -- The bindings that a rule takes may have their variables renamed, and what it makes of them is then renamed
 -- likewise; what it makes has no variables but those of the bindings.

@@ -10,10 +10,10 @@ use Rattle.am_clause.specs.declared.row.Made.{Made}
 use Rattle.am_clause.specs.declared.row.Side.{Side}
 use Rattle.am_clause.specs.Merge.{merged}
 use Rattle.am_rules.specs.Asked.{Pairs, answer_pairs, both_pairs}
-use Rattle.am_rules.specs.Made.{IsMade}
+use Rattle.am_rules.specs.Made.{IsMadeOfSuch}
 use Rattle.am_rules.specs.Parts.{literal_under, answer_under, all_but}
 use Rattle.am_rules.specs.Replacing.{other_of, put_part, changed}
-use Rattle.am_rules.specs.Resolution.{atom_at, AnswersMeet}
+use Rattle.am_rules.specs.Resolution.{nth_atom, AnswersMeet}
 use Rattle.am_rules.specs.Solving.{solved}
 use Rattle.am_clause.specs.SortedClause.{is_sorted_clause}
 use Rattle.am_clause.specs.Rules.{side_of, shared}
@@ -26,13 +26,13 @@ TermsMeet f g (Some t) None = ⊥
 TermsMeet f g (Some t) (Some u) = f t ≡ g u
 
 abbrev pub side_in : Clause → ℕ → Side → Option Term
-side_in p j side = option_and_then (side_of side) (atom_at j p)
+side_in p j side = option_and_then (side_of side) (nth_atom j p)
 
 abbrev pub other_in : Clause → ℕ → Side → Option Term
-other_in p j side = option_and_then (other_of side) (atom_at j p)
+other_in p j side = option_and_then (other_of side) (nth_atom j p)
 
 abbrev pub part_in : Clause → ℕ → List ℕ → Option Term
-part_in q i path = option_and_then (place_in path) (atom_at i q)
+part_in q i path = option_and_then (place_in path) (nth_atom i q)
 
 -- the named side of equation j of p and the part of literal i of q become one, and the answers
 pub record ParaMeets (p : Clause) (j : ℕ) (side : Side) (q : Clause) (i : ℕ) (path : List ℕ) (f g : Term → Term) : Type 0 where
@@ -63,13 +63,13 @@ paramodulation sig ins p j side q i path = solved sig ins p q (paramodulant p j 
 
 -- a row that is made, whose clause is well sorted
 pub record IsMadeSorted (sig : Signature) (ins : List SortId) (Such : List (List Term) → Type 0) (conclusion : List (List Term) → Clause) (m : Made) : Type 0 where
-  pub made : IsMade sig ins Such conclusion m
+  pub made : IsMadeOfSuch sig ins Such conclusion m
   pub sorted : IsTrue (is_sorted_clause sig ins m.clause)
 
 -- a row is made, whose clause isn't well sorted
 pub record IsMadeUnsorted (sig : Signature) (ins : List SortId) (Such : List (List Term) → Type 0) (conclusion : List (List Term) → Clause) : Type 0 where
   pub row : Made
-  pub made : IsMade sig ins Such conclusion row
+  pub made : IsMadeOfSuch sig ins Such conclusion row
   pub unsorted : IsFalse (is_sorted_clause sig ins row.clause)
 
 -- an answer: no lists are such, or what is made isn't well sorted; or what is made

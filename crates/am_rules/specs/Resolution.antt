@@ -9,8 +9,8 @@ use Rattle.am_rules.specs.Parts.{map_atom, literal_under, answer_under, all_but}
 use Rattle.am_clause.specs.Rules.{shared}
 use Rattle.am_term.specs.Place.{member}
 
-abbrev pub atom_at : ℕ → Clause → Option Atom
-atom_at i c = option_map (λ (l : Literal). l.atom) (member c.literals i)
+abbrev pub nth_atom : ℕ → Clause → Option Atom
+nth_atom i c = option_map (λ (l : Literal). l.atom) (member c.literals i)
 
 -- both atoms are there, and become one
 abbrev pub AtomsMeet : (Term → Term) → (Term → Term) → Option Atom → Option Atom → Type 0
@@ -26,7 +26,7 @@ AnswersMeet f g (Some ts) (Some us) = map f ts ≡ map g us
 
 -- atom i of p and atom j of q become one, and the answers
 pub record ResolveMeets (p : Clause) (i : ℕ) (q : Clause) (j : ℕ) (f g : Term → Term) : Type 0 where
-  pub atoms : AtomsMeet f g (atom_at i p) (atom_at j q)
+  pub atoms : AtomsMeet f g (nth_atom i p) (nth_atom j q)
   pub answers : AnswersMeet f g p.answer q.answer
 
 -- p without i, then q without j, in their instances

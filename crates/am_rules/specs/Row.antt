@@ -7,7 +7,7 @@ use Rattle.am_clause.specs.declared.row.Made.{Made}
 use Rattle.am_clause.specs.Distinct.{distinct}
 use Rattle.am_clause.specs.Variables.{Variable, same_variable, occurrences_all}
 use Rattle.am_clause.specs.Renaming.{Numbers, renamed_all}
-use Rattle.am_clause.specs.NumberedMade.{variables_in}
+use Rattle.am_clause.specs.NumberedMade.{made_occurrences}
 
 -- the variables of some lists of terms, each as often as it occurs
 abbrev pub in_lists : List (List Term) → List Variable
@@ -19,7 +19,7 @@ row c ws = record { clause = c; with = ws }
 
 -- the different variables of a conclusion with its lists, by their first occurrences
 abbrev pub variables_of_made : Made → List Variable
-variables_of_made m = distinct same_variable (variables_in m)
+variables_of_made m = distinct same_variable (made_occurrences m)
 
 abbrev pub renamed_lists : Numbers → List (List Term) → List (List Term)
 renamed_lists to = map (renamed_all to)

@@ -13,7 +13,7 @@ use Rattle.am_unify.specs.Mgu.{mgu}
 use Rattle.am_unify.specs.Substitution.{listed}
 use Rattle.am_rules.specs.Asked.{Pairs, asked}
 use Rattle.am_rules.specs.Row.{row}
-use Rattle.am_rules.specs.Resolution.{atom_at, resolvent}
+use Rattle.am_rules.specs.Resolution.{nth_atom, resolvent}
 use Rattle.am_clause.specs.NumberedMade.{numbered_made}
 
 -- the term with numbers that are k greater
@@ -49,15 +49,15 @@ solved_apart sig ins k None = None
 solved_apart sig ins k (Some ps) = mgu sig ins (apart k ps)
 
 -- what is made of the bindings by a rule's conclusion
-abbrev pub made_of : (List Term → List Term → Clause) → List Term → List Term → Made
-made_of make xs ys = numbered_made (row (make xs ys) (xs ∷ ys ∷ []))
+abbrev pub made_of_lists : (List Term → List Term → Clause) → List Term → List Term → Made
+made_of_lists make xs ys = numbered_made (row (make xs ys) (xs ∷ ys ∷ []))
 
 -- the same of the bindings of both parents' variables
 abbrev pub made_with_bindings : Clause → Clause → (List Term → List Term → Clause) → List (ℕ × Term) → Made
-made_with_bindings p q make bs = made_of make (images bs 0 (variables p)) (images bs (length (variables p)) (variables q))
+made_with_bindings p q make bs = made_of_lists make (images bs 0 (variables p)) (images bs (length (variables p)) (variables q))
 
 abbrev pub solved : Signature → List SortId → Clause → Clause → (List Term → List Term → Clause) → Pairs → Option Made
 solved sig ins p q make ps = option_map (made_with_bindings p q make) (solved_apart sig ins (length (variables p)) ps)
 
 abbrev pub resolution : Signature → List SortId → Clause → ℕ → Clause → ℕ → Option Made
-resolution sig ins p i q j = solved sig ins p q (resolvent p i q j) (asked (atom_at i p) (atom_at j q) p.answer q.answer)
+resolution sig ins p i q j = solved sig ins p q (resolvent p i q j) (asked (nth_atom i p) (nth_atom j q) p.answer q.answer)

@@ -4,7 +4,7 @@ ghost use Rattle.am_rules.specs.Alone.{kept, sides, made_alone as is_made_alone,
 ghost use Rattle.am_rules.specs.Asked.{asked};
 ghost use Rattle.am_rules.specs.Inference.{AnswersOne};
 ghost use Rattle.am_clause.specs.Rules.{factor as factor_rule, reflex as reflex_rule};
-ghost use Rattle.am_rules.specs.Resolution.{atom_at};
+ghost use Rattle.am_rules.specs.Resolution.{nth_atom};
 ghost use Rattle.am_rules.specs.Row.{row};
 ghost use Rattle.am_rules.specs.Conclusions.{factored, reflexed};
 ghost use Rattle.am_clause.specs.SortedClause.{is_sorted_clause};
@@ -31,7 +31,8 @@ pub fn factor(
     j: u32,
 ) -> Result<Option<Made>, NoMemory>
     ensures is { IfOk result (λ o. o ≡ factored ctx.now.sig.now ctx.now.ins.now p.now i j) }
-    ensures inference { IsNumbered p.now → IsTrue (is_sorted_clause ctx.now.sig.now ctx.now.ins.now p.now) → IfOk result (λ o. AnswersOne ctx.now.sig.now ctx.now.ins.now (factor_rule i j) p.now o) }
+    ensures inference { IsNumbered p.now → IsTrue (is_sorted_clause ctx.now.sig.now ctx.now.ins.now p.now)
+        → IfOk result (λ o. AnswersOne ctx.now.sig.now ctx.now.ins.now (factor_rule i j) p.now o) }
 {
     let is_suited = suits_factor(p, i, j);
     if !is_suited {
@@ -60,7 +61,7 @@ fn factor_pairs(
     i: u32,
     j: u32,
 ) -> Result<Option<Items<(Term, Term)>>, NoMemory>
-    ensures { IfOk result (λ o. o ≡ asked (atom_at i p.now) (atom_at j p.now) None None) }
+    ensures { IfOk result (λ o. o ≡ asked (nth_atom i p.now) (nth_atom j p.now) None None) }
 {
     match literal_at(p.literals.as_slice(), i) {
         Some(first) => match literal_at(p.literals.as_slice(), j) {
@@ -76,7 +77,8 @@ fn factor_pairs(
 #[tactic(auto, using(crate::proofs::Concluded::concluding))]
 pub fn reflex(alloc: Global, ctx: &Ctx, p: &Clause, i: u32) -> Result<Option<Made>, NoMemory>
     ensures is { IfOk result (λ o. o ≡ reflexed ctx.now.sig.now ctx.now.ins.now p.now i) }
-    ensures inference { IsNumbered p.now → IsTrue (is_sorted_clause ctx.now.sig.now ctx.now.ins.now p.now) → IfOk result (λ o. AnswersOne ctx.now.sig.now ctx.now.ins.now (reflex_rule i) p.now o) }
+    ensures inference { IsNumbered p.now → IsTrue (is_sorted_clause ctx.now.sig.now ctx.now.ins.now p.now)
+        → IfOk result (λ o. AnswersOne ctx.now.sig.now ctx.now.ins.now (reflex_rule i) p.now o) }
 {
     let is_suited = suits_reflex(p, i);
     if !is_suited {
@@ -99,7 +101,7 @@ fn reflexion(alloc: Global, ctx: &Ctx, p: &Clause, i: u32) -> Result<Option<Made
 
 // The sides of the equation.
 fn reflex_pairs(alloc: Global, p: &Clause, i: u32) -> Result<Option<Items<(Term, Term)>>, NoMemory>
-    ensures { IfOk result (λ o. o ≡ sides (atom_at i p.now)) }
+    ensures { IfOk result (λ o. o ≡ sides (nth_atom i p.now)) }
 {
     match literal_at(p.literals.as_slice(), i) {
         Some(literal) => sides_of(alloc, &literal.atom),

@@ -157,7 +157,8 @@ pub fn asked_apart(
     other: &Option<Items<Term>>,
     k: u32,
 ) -> Result<Option<Items<(Term, Term)>>, NoMemory>
-    ensures { IfOk result (λ o. o ≡ option_map (apart k) (asked (Some first.now) (Some second.now) answer.now other.now)) }
+    ensures { IfOk result (λ o. o ≡ option_map (apart k)
+        (asked (Some first.now) (Some second.now) answer.now other.now)) }
 {
     match atoms_apart(alloc, first, second, k)? {
         Some(pairs) => match answers_apart(alloc, answer, other, k)? {

@@ -3,7 +3,7 @@ ghost use Rattle.am_term.specs.Sorting.{fits_place};
 ghost use Rattle.am_clause.specs.Numbered.{IsNumbered};
 ghost use Rattle.am_clause.specs.Rules.{close as close_rule};
 ghost use Rattle.am_rules.specs.Chosen.{all_chosen, closed_by as is_closed_by, closing as is_closing};
-ghost use Rattle.am_rules.specs.Conclusions.{closed as is_closed};
+ghost use Rattle.am_rules.specs.Conclusions.{closed_off as is_closed};
 ghost use Rattle.am_rules.specs.Closing.{input_for as first_input, is_constant_for, constant_for as first_constant, closing_term as chosen_term, AnswersClosing};
 
 use crate::instancing::instance_of_answer;

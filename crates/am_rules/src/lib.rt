@@ -1,8 +1,8 @@
 //! The rules of inference, each with most general bindings, and rewriting by a match.
 //!
-//! `specs/Conclusions` has each rule as a function, which its call computes of any clauses. `specs/Inference` says what an
-//! inference and a rewrite are, in the words of `am_clause`'s rules and steps, and `specs/Closing` what becomes of the
-//! variables of an answer. The other files of `specs/` tell how unification leads there.
+//! `specs/Conclusions` has each rule as a function, which its call computes of any clauses. `specs/Inference` says what
+//! an inference and a rewrite are, in the words of `am_clause`'s rules and steps, and `specs/Closing` what becomes of
+//! the variables of an answer. The other files of `specs/` tell how unification leads there.
 #![tactic(auto)]
 
 mod alone;

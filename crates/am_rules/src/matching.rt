@@ -67,7 +67,8 @@ fn extended_all(
     terms: &[Term],
     found: Items<(u32, Term)>,
 ) -> Result<Option<Items<(u32, Term)>>, NoMemory>
-    ensures { IfOk result (λ o. o ≡ match_all (map (matched ctx.now.sig.now ctx.now.ins.now) patterns.now) terms.now found) }
+    ensures { IfOk result (λ o. o ≡ match_all
+        (map (matched ctx.now.sig.now ctx.now.ins.now) patterns.now) terms.now found) }
 {
     if patterns.len() != terms.len() {
         return Ok(None);
@@ -92,7 +93,8 @@ fn bound(
     term: &Term,
     found: Items<(u32, Term)>,
 ) -> Result<Option<Items<(u32, Term)>>, NoMemory>
-    ensures { IfOk result (λ o. o ≡ bind_held ctx.now.sig.now ctx.now.ins.now n sort term.now found (is_held found n term.now)) }
+    ensures { IfOk result (λ o. o ≡ bind_held ctx.now.sig.now ctx.now.ins.now n sort term.now found
+        (is_held found n term.now)) }
 {
     match held(found.as_slice(), n, term) {
         Some(true) => return Ok(Some(found)),

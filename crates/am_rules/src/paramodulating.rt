@@ -2,11 +2,11 @@ ghost use Rattle.std.specs.Prelude.{◌≡◌, ◌∷◌, [], IfOk, IsTrue, opti
 ghost use Rattle.am_term.specs.Instance.{instance};
 ghost use Rattle.am_clause.specs.Numbered.{IsNumbered};
 ghost use Rattle.am_clause.specs.Variables.{variables};
-ghost use Rattle.am_unify.specs.Unifier.{bindings_of};
+ghost use Rattle.am_unify.specs.Unifier.{bindings_answered};
 ghost use Rattle.am_rules.specs.Inference.{AnswersSorted};
 ghost use Rattle.am_clause.specs.Rules.{para as para_rule};
 ghost use Rattle.am_rules.specs.Conclusions.{paramodulated};
-ghost use Rattle.am_rules.specs.Solving.{apart, images, solved_apart, made_of as is_made_of};
+ghost use Rattle.am_rules.specs.Solving.{apart, images, solved_apart, made_of_lists as is_made_of};
 ghost use Rattle.am_rules.specs.Paramodulation.{side_in as is_side_at, other_in as is_other_at, part_in as is_part_at, paramodulant, replaced_literals, term_pairs, para_pairs, paramodulation as is_paramodulation, sorted_only};
 ghost use Rattle.am_clause.specs.SortedClause.{is_sorted_clause};
 
@@ -24,10 +24,10 @@ use am_unify::{Subst, unify};
 use sqlite_items::Items;
 use std::alloc::Global;
 
-/// The second clause with the part of literal i at a path replaced by the other side of equation j of the first, by most
-/// general bindings that make the named side and the part one, and the answers if both have one. None exactly where
-/// the equation isn't there or not positive, there is no such part, no well-sorted bindings do, or the conclusion isn't
-/// well sorted.
+/// The second clause with the part of literal i at a path replaced by the other side of equation j of the first, by
+/// most general bindings that make the named side and the part one, and the answers if both have one. None exactly
+/// where the equation isn't there or not positive, there is no such part, no well-sorted bindings do, or the conclusion
+/// isn't well sorted.
 #[tactic(auto, using(crate::proofs::Concluded::concluding))]
 pub fn paramodulate(
     alloc: Global,
@@ -40,7 +40,10 @@ pub fn paramodulate(
     path: &[u32],
 ) -> Result<Option<Made>, NoMemory>
     ensures is { IfOk result (λ o. o ≡ paramodulated ctx.now.sig.now ctx.now.ins.now p.now j side q.now i path.now) }
-    ensures inference { IsNumbered p.now → IsNumbered q.now → IsTrue (is_sorted_clause ctx.now.sig.now ctx.now.ins.now p.now) → IsTrue (is_sorted_clause ctx.now.sig.now ctx.now.ins.now q.now) → IfOk result (λ o. AnswersSorted ctx.now.sig.now ctx.now.ins.now (para_rule j side i path.now) p.now q.now o) }
+    ensures inference { IsNumbered p.now → IsNumbered q.now
+        → IsTrue (is_sorted_clause ctx.now.sig.now ctx.now.ins.now p.now)
+        → IsTrue (is_sorted_clause ctx.now.sig.now ctx.now.ins.now q.now)
+        → IfOk result (λ o. AnswersSorted ctx.now.sig.now ctx.now.ins.now (para_rule j side i path.now) p.now q.now o) }
 {
     let is_suited = suits_para(p, j, side, q, i, path);
     if !is_suited {
@@ -98,7 +101,8 @@ fn replaced_by(
     k: u32,
     found: &Subst,
 ) -> Result<Made, NoMemory>
-    ensures { IfOk result (λ m. m ≡ is_made_of (paramodulant p.now j side q.now i path.now) (images found.now.0 0 (variables p.now)) (images found.now.0 k (variables q.now))) }
+    ensures { IfOk result (λ m. m ≡ is_made_of (paramodulant p.now j side q.now i path.now)
+        (images found.now.0 0 (variables p.now)) (images found.now.0 k (variables q.now))) }
 {
     let p_variables = clause_variables(alloc, p)?;
     let left = images_of(alloc, found.0.as_slice(), 0, p_variables.as_slice())?;
@@ -120,7 +124,8 @@ fn solution(
     path: &[u32],
     k: u32,
 ) -> Result<Option<Subst>, NoMemory>
-    ensures { IfOk result (λ o. bindings_of o ≡ solved_apart ctx.now.sig.now ctx.now.ins.now k (para_pairs p.now j side q.now i path.now)) }
+    ensures { IfOk result (λ o. bindings_answered o ≡ solved_apart ctx.now.sig.now ctx.now.ins.now k
+        (para_pairs p.now j side q.now i path.now)) }
 {
     match terms_apart(alloc, p, j, side, q, i, path, k)? {
         Some(pairs) => match answers_apart(alloc, &p.answer, &q.answer, k)? {
@@ -146,7 +151,8 @@ fn terms_apart(
     path: &[u32],
     k: u32,
 ) -> Result<Option<Items<(Term, Term)>>, NoMemory>
-    ensures { IfOk result (λ o. o ≡ option_map (apart k) (term_pairs (is_side_at p.now j side) (is_part_at q.now i path.now))) }
+    ensures { IfOk result (λ o. o ≡ option_map (apart k)
+        (term_pairs (is_side_at p.now j side) (is_part_at q.now i path.now))) }
 {
     match side_at(p, j, side) {
         Some(first) => match part_at(q, i, path) {

@@ -229,7 +229,8 @@ pub fn instances_changed(
     path: &[u32],
     new: &Option<Term>,
 ) -> Result<Items<Literal>, NoMemory>
-    ensures { IfOk result (λ ls. ls ≡ changed i (is_put_part new.now path.now) (map (literal_under with.now) literals.now)) }
+    ensures { IfOk result (λ ls. ls ≡ changed i (is_put_part new.now path.now)
+        (map (literal_under with.now) literals.now)) }
 {
     instances_put(alloc, literals, with, i, path, new)
 }

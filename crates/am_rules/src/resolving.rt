@@ -1,13 +1,13 @@
 ghost use Rattle.std.specs.Prelude.{◌≡◌, ◌∷◌, [], Some, IfOk, IsTrue};
 ghost use Rattle.am_clause.specs.Numbered.{IsNumbered};
 ghost use Rattle.am_clause.specs.Variables.{variables};
-ghost use Rattle.am_unify.specs.Unifier.{bindings_of};
+ghost use Rattle.am_unify.specs.Unifier.{bindings_answered};
 ghost use Rattle.am_rules.specs.Asked.{asked};
 ghost use Rattle.am_rules.specs.Inference.{AnswersTwo};
 ghost use Rattle.am_rules.specs.Parts.{answer_under};
-ghost use Rattle.am_rules.specs.Resolution.{atom_at, resolvent};
+ghost use Rattle.am_rules.specs.Resolution.{nth_atom, resolvent};
 ghost use Rattle.am_rules.specs.Conclusions.{resolved};
-ghost use Rattle.am_rules.specs.Solving.{images, solved_apart, made_of as is_made_of, resolution as is_resolution};
+ghost use Rattle.am_rules.specs.Solving.{images, solved_apart, made_of_lists as is_made_of, resolution as is_resolution};
 ghost use Rattle.am_clause.specs.SortedClause.{is_sorted_clause};
 ghost use Rattle.am_clause.specs.Rules.{shared, resolve as resolve_rule};
 
@@ -23,8 +23,9 @@ use sqlite_items::Items;
 use std::alloc::Global;
 
 /// The two clauses, of which the first has no variable of the second, resolved by atom i of the first and atom j of
-/// the second, places from 1: the row made by most general bindings that make the two atoms one, and the answers if both
-/// have one. None exactly where the atoms aren't there as relations of opposite signs, or no well-sorted bindings do.
+/// the second, places from 1: the row made by most general bindings that make the two atoms one, and the answers if
+/// both have one. None exactly where the atoms aren't there as relations of opposite signs, or no well-sorted bindings
+/// do.
 #[tactic(auto, using(crate::proofs::Concluded::concluding))]
 pub fn resolve(
     alloc: Global,
@@ -35,7 +36,10 @@ pub fn resolve(
     j: u32,
 ) -> Result<Option<Made>, NoMemory>
     ensures is { IfOk result (λ o. o ≡ resolved ctx.now.sig.now ctx.now.ins.now p.now i q.now j) }
-    ensures inference { IsNumbered p.now → IsNumbered q.now → IsTrue (is_sorted_clause ctx.now.sig.now ctx.now.ins.now p.now) → IsTrue (is_sorted_clause ctx.now.sig.now ctx.now.ins.now q.now) → IfOk result (λ o. AnswersTwo ctx.now.sig.now ctx.now.ins.now (resolve_rule i j) p.now q.now o) }
+    ensures inference { IsNumbered p.now → IsNumbered q.now
+        → IsTrue (is_sorted_clause ctx.now.sig.now ctx.now.ins.now p.now)
+        → IsTrue (is_sorted_clause ctx.now.sig.now ctx.now.ins.now q.now)
+        → IfOk result (λ o. AnswersTwo ctx.now.sig.now ctx.now.ins.now (resolve_rule i j) p.now q.now o) }
 {
     let is_suited = suits_resolve(p, i, q, j);
     if !is_suited {
@@ -73,7 +77,8 @@ fn resolved_by(
     k: u32,
     found: &Subst,
 ) -> Result<Made, NoMemory>
-    ensures { IfOk result (λ m. m ≡ is_made_of (resolvent p.now i q.now j) (images found.now.0 0 (variables p.now)) (images found.now.0 k (variables q.now))) }
+    ensures { IfOk result (λ m. m ≡ is_made_of (resolvent p.now i q.now j) (images found.now.0 0 (variables p.now))
+        (images found.now.0 k (variables q.now))) }
 {
     let p_variables = clause_variables(alloc, p)?;
     let left = images_of(alloc, found.0.as_slice(), 0, p_variables.as_slice())?;
@@ -93,7 +98,8 @@ fn solution(
     j: u32,
     k: u32,
 ) -> Result<Option<Subst>, NoMemory>
-    ensures { IfOk result (λ o. bindings_of o ≡ solved_apart ctx.now.sig.now ctx.now.ins.now k (asked (atom_at i p.now) (atom_at j q.now) p.now.answer q.now.answer)) }
+    ensures { IfOk result (λ o. bindings_answered o ≡ solved_apart ctx.now.sig.now ctx.now.ins.now k
+        (asked (nth_atom i p.now) (nth_atom j q.now) p.now.answer q.now.answer)) }
 {
     match literal_at(p.literals.as_slice(), i) {
         Some(first) => match literal_at(q.literals.as_slice(), j) {

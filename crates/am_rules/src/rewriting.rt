@@ -15,10 +15,11 @@ use am_term::{Ctx, NoMemory, SortId, Term};
 use sqlite_items::Items;
 use std::alloc::Global;
 
-/// The second clause with the part of literal i at a path replaced by the other side of the first, which is one positive
-/// equation without an answer, by the bindings of the first's variables that make its named side that part: the second's
-/// variables are constants. A variable of the first that isn't bound stays as it is. None exactly where the clauses
-/// aren't of that kind, there is no such part, no well-sorted bindings do, or the conclusion isn't well sorted.
+/// The second clause with the part of literal i at a path replaced by the other side of the first, which is one
+/// positive equation without an answer, by the bindings of the first's variables that make its named side that part:
+/// the second's variables are constants. A variable of the first that isn't bound stays as it is. None exactly where
+/// the clauses aren't of that kind, there is no such part, no well-sorted bindings do, or the conclusion isn't well
+/// sorted.
 #[tactic(auto, using(crate::proofs::Concluded::concluding))]
 pub fn rewrite(
     alloc: Global,
@@ -30,7 +31,10 @@ pub fn rewrite(
     path: &[u32],
 ) -> Result<Option<Made>, NoMemory>
     ensures is { IfOk result (λ o. o ≡ rewritten ctx.now.sig.now ctx.now.ins.now p.now side q.now i path.now) }
-    ensures inference { IsNumbered p.now → IsNumbered q.now → IsTrue (is_sorted_clause ctx.now.sig.now ctx.now.ins.now p.now) → IsTrue (is_sorted_clause ctx.now.sig.now ctx.now.ins.now q.now) → IfOk result (λ o. AnswersRewrite ctx.now.sig.now ctx.now.ins.now p.now side q.now i path.now o) }
+    ensures inference { IsNumbered p.now → IsNumbered q.now
+        → IsTrue (is_sorted_clause ctx.now.sig.now ctx.now.ins.now p.now)
+        → IsTrue (is_sorted_clause ctx.now.sig.now ctx.now.ins.now q.now)
+        → IfOk result (λ o. AnswersRewrite ctx.now.sig.now ctx.now.ins.now p.now side q.now i path.now o) }
 {
     let is_suited = suits_rewrite(p, side, q, i, path);
     if !is_suited {
@@ -68,7 +72,8 @@ fn match_at(
     i: u32,
     path: &[u32],
 ) -> Result<Option<Items<(u32, Term)>>, NoMemory>
-    ensures { IfOk result (λ o. o ≡ found_match ctx.now.sig.now ctx.now.ins.now (side_in p.now 1 side) (part_in q.now i path.now)) }
+    ensures { IfOk result (λ o. o ≡ found_match ctx.now.sig.now ctx.now.ins.now (side_in p.now 1 side)
+        (part_in q.now i path.now)) }
 {
     match side_at(p, 1, side) {
         Some(pattern) => match part_at(q, i, path) {

@@ -9,7 +9,7 @@ use Rattle.am_clause.specs.declared.row.Row.{Row}
 use Rattle.am_search.proofs.Partners.{row_at-after}
 use Rattle.am_search.specs.Laws.{fate_then, entries_made, EntriesLaw}
 use Rattle.am_search.specs.Members.{row_at}
-use Rattle.am_search.specs.Plain.{is_inferred, Judged, prepare, fate_of, when_quiet, begun, started, next_start, joined, due_at, Infers, due, settled, History, judged, Start, at_first, Then, Choose, Infer, rows, choices, entry_of, Follows, wait_list, rest}
+use Rattle.am_search.specs.Plain.{is_inferred, Judged, prepare, fate_of, when_quiet, begun, start_prepared, next_start, row_judged, due_at, Infers, due, settled, History, judged, Start, at_first, Then, Choose, Infer, rows, choices, entry_of, EachIsDue, wait_list, rest}
 use Rattle.am_search.specs.Rules.{Rules}
 use Rattle.am_agenda.specs.declared.wait_row.WaitRow.{WaitRow}
 use Rattle.am_search.specs.declared.fate.Fate.TheVariants.{Last}
@@ -56,26 +56,26 @@ module _ (c : Rules) (rs : List Row) (ns : List ℕ) where
   begun_same : (left : ℕ) (j : Judged) → left ≤ c.starting → j.left ≡ left → late c.starting (begun c rs ns left j).fates ≡ late c.starting j.fates
   begun_same zero j few is = refl
   begun_same (suc left) j few is =
-      when_late j.stage (begun c rs ns left (started c rs ns left j)) j (late c.starting j.fates)
-      (begun_same left (started c rs ns left j) (omega arith) (prepare_left (next_start c j.left) (row_at rs (next_start c j.left)) (record j { left = left }))
+      when_late j.stage (begun c rs ns left (start_prepared c rs ns left j)) j (late c.starting j.fates)
+      (begun_same left (start_prepared c rs ns left j) (omega arith) (prepare_left (next_start c j.left) (row_at rs (next_start c j.left)) (record j { left = left }))
       ∙ prepare_same (next_start c j.left) (row_at rs (next_start c j.left)) (record j { left = left }) (early j.left left is few))
       refl
 
   begun_left : (left : ℕ) (j : Judged) → j.left ≡ left → (begun c rs ns left j).left ≤ left
   begun_left zero j is = omega arith
   begun_left (suc left) j is =
-      let less : (begun c rs ns left (started c rs ns left j)).left ≤ left =
-      begun_left left (started c rs ns left j) (prepare_left (next_start c j.left) (row_at rs (next_start c j.left)) (record j { left = left })) in
-      when_left j.stage (begun c rs ns left (started c rs ns left j)) j (suc left) (omega arith) (omega arith)
+      let less : (begun c rs ns left (start_prepared c rs ns left j)).left ≤ left =
+      begun_left left (start_prepared c rs ns left j) (prepare_left (next_start c j.left) (row_at rs (next_start c j.left)) (record j { left = left })) in
+      when_left j.stage (begun c rs ns left (start_prepared c rs ns left j)) j (suc left) (omega arith) (omega arith)
 
-  joined_left : (n : ℕ) (row : Row) (s : Stage) (j : Judged) → (joined c rs ns n row s j).left ≡ j.left
+  joined_left : (n : ℕ) (row : Row) (s : Stage) (j : Judged) → (row_judged c rs ns n row s j).left ≡ j.left
   joined_left n row Quiet j = refl
   joined_left n row (Makes r) j = refl
   joined_left n row (Closes r) j = refl
   joined_left n row (Ended b) j = refl
 
   joined_late : (n : ℕ) (row : Row) (s : Stage) (j : Judged) (waits : List WaitRow) (left_rows : List Row) → due_at waits left_rows s ≡ Infers row → nat_lt c.starting n ≡ true
-      → late c.starting (joined c rs ns n row s j).fates ≡ late c.starting j.fates ++ (record { number = n; fate = fate_then c rs ns n row s j }) ∷ []
+      → late c.starting (row_judged c rs ns n row s j).fates ≡ late c.starting j.fates ++ (record { number = n; fate = fate_then c rs ns n row s j }) ∷ []
   joined_late n row Quiet j waits left_rows due is = let_in c.starting j.fates (record { number = n; fate = (fate_of c rs ns j.fates n row).0 }) is
   joined_late n row (Makes r) j waits left_rows due is = let_in c.starting j.fates (record { number = n; fate = (fate_of c rs ns j.fates n row).0 }) is
   joined_late n row (Closes r) j waits left_rows due is = let_in c.starting j.fates (record { number = n; fate = Last }) is
@@ -84,14 +84,14 @@ module _ (c : Rules) (rs : List Row) (ns : List ℕ) where
   settled_late : (n : ℕ) (row : Row) (j : Judged) (waits : List WaitRow) (left_rows : List Row) → due_at waits left_rows j.stage ≡ Infers row → nat_lt c.starting n ≡ true → j.left ≤ c.starting
       → late c.starting (settled c rs ns n row j).fates ≡ late c.starting j.fates ++ (record { number = n; fate = fate_then c rs ns n row j.stage j }) ∷ []
   settled_late n row j waits left_rows due is few =
-      let same : (joined c rs ns n row j.stage j).left ≡ j.left = joined_left n row j.stage j in
-      let less : (joined c rs ns n row j.stage j).left ≤ c.starting = omega arith in
-      begun_same (joined c rs ns n row j.stage j).left (joined c rs ns n row j.stage j) less refl ∙ joined_late n row j.stage j waits left_rows due is
+      let same : (row_judged c rs ns n row j.stage j).left ≡ j.left = joined_left n row j.stage j in
+      let less : (row_judged c rs ns n row j.stage j).left ≤ c.starting = omega arith in
+      begun_same (row_judged c rs ns n row j.stage j).left (row_judged c rs ns n row j.stage j) less refl ∙ joined_late n row j.stage j waits left_rows due is
 
   settled_left : (n : ℕ) (row : Row) (j : Judged) (most : ℕ) → j.left ≤ most → (settled c rs ns n row j).left ≤ most
   settled_left n row j most few =
-      let same : (joined c rs ns n row j.stage j).left ≡ j.left = joined_left n row j.stage j in
-      let less : (settled c rs ns n row j).left ≤ (joined c rs ns n row j.stage j).left = begun_left (joined c rs ns n row j.stage j).left (joined c rs ns n row j.stage j) refl in
+      let same : (row_judged c rs ns n row j.stage j).left ≡ j.left = joined_left n row j.stage j in
+      let less : (settled c rs ns n row j).left ≤ (row_judged c rs ns n row j.stage j).left = begun_left (row_judged c rs ns n row j.stage j).left (row_judged c rs ns n row j.stage j) refl in
       omega arith
 
 left_few : (c : Rules) (start : List Row) (h : History) → (judged c start h).left ≤ c.starting
@@ -120,7 +120,7 @@ rows_many start (Then h (Infer row)) =
     omega arith
 
 -- more rows don't change an entry
-entries_with : (c : Rules) (start : List Row) (h : History) → c.starting ≡ length start → Follows c start h
+entries_with : (c : Rules) (start : List Row) (h : History) → c.starting ≡ length start → EachIsDue c start h
     → (more : List Row) → filter_map (entry_of (rows start h ++ more)) (late c.starting (judged c start h).fates) ≡ entries_made c start h
 entries_with c start Start is f more = ap (filter_map (entry_of (start ++ more))) (begun_same c start [] (c.starting - c.axioms) (at_first c) (omega arith) refl)
 entries_with c start (Then h (Choose n)) is f more = entries_with c start h is f.1 more

@@ -11,8 +11,8 @@ use Rattle.am_search.proofs.Marked.{any_more}
 use Rattle.am_search.proofs.Standing.{due_by}
 use Rattle.am_search.specs.Marks.{was_chosen, keeps, was_kept, is_kept}
 use Rattle.am_search.specs.Members.{Member, numbered_rows, is_waiting, shown, waiting, row_at}
-use Rattle.am_search.specs.Outcomes.{kind_of, advanced}
-use Rattle.am_search.specs.Plain.{picked_at, Judged, prepare, fate_of, when_quiet, begun, started, next_start, joined, settled, Reading, after, Infer, wait_of, due_of, Choose}
+use Rattle.am_search.specs.Outcomes.{due_kind, advanced}
+use Rattle.am_search.specs.Plain.{picked_at, Judged, prepare, fate_of, when_quiet, begun, start_prepared, next_start, row_judged, settled, Reading, after, Infer, wait_of, due_of, Choose}
 use Rattle.am_search.specs.Rules.{Rules}
 use Rattle.am_search.specs.Searching.{work}
 use Rattle.am_simplify.specs.NormalStep.{goes}
@@ -210,12 +210,12 @@ module _ (c : Rules) (rs : List Row) (ns : List ℕ) where
   begun_open : (left : ℕ) (j : Judged) → j.left ≡ left → open_ (begun c rs ns left j) ≤ open_ j
   begun_open zero j is = omega arith
   begun_open (suc left) j is =
-      let start_ : Judged = started c rs ns left j in
+      let start_ : Judged = start_prepared c rs ns left j in
       let less : open_ (begun c rs ns left start_) ≤ open_ start_ = begun_open left start_ (prepare_left c rs ns (next_start c j.left) (row_at rs (next_start c j.left)) (record j { left = left })) in
       let more : open_ start_ ≤ open_ (record j { left = left }) + 1 = prepare_open (next_start c j.left) (row_at rs (next_start c j.left)) (record j { left = left }) in
       when_open j.stage (begun c rs ns left start_) j (open_ j) (omega arith) (omega arith)
 
-  joined_open : (n : ℕ) (row : Row) (s : Stage) (j : Judged) → open_ (joined c rs ns n row s j) ≤ open_ j + 1
+  joined_open : (n : ℕ) (row : Row) (s : Stage) (j : Judged) → open_ (row_judged c rs ns n row s j) ≤ open_ j + 1
   joined_open n row Quiet j = prepare_open n (Some row) j
   joined_open n row (Makes r) j = prepare_open n (Some row) j
   joined_open n row (Closes r) j = let more : waits_many rs (j.fates ++ (record { number = n; fate = Last }) ∷ []) ns ≤ waits_many rs j.fates ns + 1 = fate_more rs j.fates (record { number = n; fate = Last }) ns in omega arith
@@ -223,7 +223,7 @@ module _ (c : Rules) (rs : List Row) (ns : List ℕ) where
 
   settled_open : (n : ℕ) (row : Row) (j : Judged) → open_ (settled c rs ns n row j) ≤ open_ j + 1
   settled_open n row j =
-      let k : Judged = joined c rs ns n row j.stage j in
+      let k : Judged = row_judged c rs ns n row j.stage j in
       let less : open_ (begun c rs ns k.left k) ≤ open_ k = begun_open k.left k refl in
       let more : open_ k ≤ open_ j + 1 = joined_open n row j.stage j in
       omega arith
@@ -241,7 +241,7 @@ work_inferred c row v =
     omega arith
 
 -- an inference leaves less to do
-pub infers_less : (c : Rules) (u v w : Reading) (limit made : ℕ) → v ≡ u → kind_of (due_of c v) ≡ Inferring → w ≡ advanced c v → made ≤ limit → made ≢ limit
+pub infers_less : (c : Rules) (u v w : Reading) (limit made : ℕ) → v ≡ u → due_kind (due_of c v) ≡ Inferring → w ≡ advanced c v → made ≤ limit → made ≢ limit
     → 3 * (limit - (made + 1)) + work c w < 3 * (limit - made) + work c u
 infers_less c u v w limit made same is goes few isnt =
     let d = due_by c v w (due_of c v) is goes in

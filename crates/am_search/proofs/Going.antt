@@ -4,10 +4,10 @@ use Rattle.std.proofs.Common.{refl, inl, ◌∙◌, sym, inr, ap, arith, subst}
 use Rattle.am_clause.specs.declared.row.Row.{Row}
 use Rattle.am_search.proofs.Fewer.{infers_less, chooses_less}
 use Rattle.am_search.proofs.Standing.{due_by, chooses_by}
-use Rattle.am_search.specs.Outcomes.{kind_of, advanced}
+use Rattle.am_search.specs.Outcomes.{due_kind, advanced}
 use Rattle.am_search.specs.Plain.{History, Start, Then, Infer, Choose, Reading, due_of, after, due_at, wait_of, Pick, picked_at}
 use Rattle.am_search.specs.Rules.{Rules}
-use Rattle.am_search.specs.Searching.{GoesOn, StandsAt, Run, Stops, task}
+use Rattle.am_search.specs.Searching.{GoesOn, StandsAt, Run, StopsInferring, task}
 use Rattle.am_simplify.specs.NormalStep.{goes}
 use Rattle.am_agenda.specs.declared.wait_row.WaitRow.{WaitRow}
 use Rattle.am_search.specs.declared.fate.End.{End}
@@ -34,7 +34,7 @@ pub run_same : (c : Rules) (start : List Row) (limit : ℕ) (h : History) (v w :
 run_same c start limit h v w made r is = record { history = r.history; goes_on = r.goes_on; stands = stands_so c start limit r.history v w made r.stands is }
 
 pub run_more : (c : Rules) (start : List Row) (limit : ℕ) (h : History) (v w : Reading) (made : ℕ)
-    → Run c start limit h v made → kind_of (due_of c v) ≡ Inferring → made ≢ limit → w ≡ advanced c v → Run c start limit h w (made + 1)
+    → Run c start limit h v made → due_kind (due_of c v) ≡ Inferring → made ≢ limit → w ≡ advanced c v → Run c start limit h w (made + 1)
 run_more c start limit h v w made r is isnt goes =
     let d = due_by c v w (due_of c v) is goes in
     let few : made ≤ limit = r.stands.few in
@@ -49,13 +49,13 @@ run_more c start limit h v w made r is isnt goes =
       };
     }
 
-pub stops_at : (limit made : ℕ) (kind : Kind) (end : End) → kind ≡ Ending end → end ≢ Spent → Stops limit made kind (Over end)
+pub stops_at : (limit made : ℕ) (kind : Kind) (end : End) → kind ≡ Ending end → end ≢ Spent → StopsInferring limit made kind (Over end)
 stops_at limit made kind Found is isnt = is
 stops_at limit made kind Contradiction is isnt = is
 stops_at limit made kind Exhausted is isnt = is
 stops_at limit made kind Spent is isnt = absurd (isnt refl)
 
-at_kind : (waits : List WaitRow) (rs : List Row) (stage : Stage) (end : End) → kind_of (due_at waits rs stage) ≡ Ending end → end ≢ Spent
+at_kind : (waits : List WaitRow) (rs : List Row) (stage : Stage) (end : End) → due_kind (due_at waits rs stage) ≡ Ending end → end ≢ Spent
 at_kind waits rs (Ended true) end is = λ e. cc
 at_kind waits rs (Ended false) end is = λ e. cc
 at_kind waits rs (Makes row) end is = λ e. cc
@@ -65,12 +65,12 @@ at_kind [] [] Quiet end is = λ e. cc
 at_kind (w ∷ ws) [] Quiet end is = λ e. cc
 
 -- an end that is due isn't Spent
-pub never_spent : (c : Rules) (v : Reading) (end : End) → kind_of (due_of c v) ≡ Ending end → end ≢ Spent
+pub never_spent : (c : Rules) (v : Reading) (end : End) → due_kind (due_of c v) ≡ Ending end → end ≢ Spent
 never_spent c v end is = at_kind (wait_of c v) v.rest v.judged.stage end is
 
 -- after a choice
 pub stands_chosen : (c : Rules) (start : List Row) (limit : ℕ) (h : History) (v w : Reading) (made n : ℕ)
-    → StandsAt c start limit h v made → kind_of (due_of c v) ≡ Choosing → w ≡ after c (Choose n) v → StandsAt c start limit (Then h (Choose n)) w made
+    → StandsAt c start limit h v made → due_kind (due_of c v) ≡ Choosing → w ≡ after c (Choose n) v → StandsAt c start limit (Then h (Choose n)) w made
 stands_chosen c start limit h v w made n s is goes = record {
   reads = ap (after c (Choose n)) s.reads ∙ sym goes;
   follows = (ap (due_of c) s.reads ∙ chooses_by (due_of c v) is, s.follows);
@@ -86,7 +86,7 @@ picked_of pick ws waits n are is = subst (λ (l : List WaitRow). picked_at l (pi
 pub less_same : (c : Rules) (limit made most : ℕ) (u v : Reading) → v ≡ u → task c limit made u ≤ most → task c limit made v ≤ most
 less_same c limit made most u v same less = subst (λ (w : Reading). task c limit made w ≤ most) (sym same) less
 
-pub less_more : (c : Rules) (u v w : Reading) (limit made most : ℕ) → v ≡ u → kind_of (due_of c v) ≡ Inferring → w ≡ advanced c v → made ≤ limit → made ≢ limit → task c limit made u ≤ most → task c limit (made + 1) w ≤ most
+pub less_more : (c : Rules) (u v w : Reading) (limit made most : ℕ) → v ≡ u → due_kind (due_of c v) ≡ Inferring → w ≡ advanced c v → made ≤ limit → made ≢ limit → task c limit made u ≤ most → task c limit (made + 1) w ≤ most
 less_more c u v w limit made most same is goes few isnt less =
     let one : task c limit (made + 1) w < task c limit made u = infers_less c u v w limit made same is goes few isnt in
     omega arith

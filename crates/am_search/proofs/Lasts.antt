@@ -5,8 +5,8 @@ use Rattle.am_clause.specs.declared.row.Row.{Row}
 use Rattle.am_search.proofs.Entered.{row_found}
 use Rattle.am_search.proofs.Replayed.{at_more}
 use Rattle.am_search.specs.Laws.{EndsWithLast, LastLaw}
-use Rattle.am_search.specs.Members.{kept, processed, row_at}
-use Rattle.am_search.specs.Plain.{kept_or_closed, last_or, dropped_or, rewritten_or, big_or, Judged, fated, prepare, fate_of, when_quiet, begun, started, next_start, joined, Start, at_first, Then, Choose, Infer, rows, judged, choices}
+use Rattle.am_search.specs.Members.{kept_rows, processed, row_at}
+use Rattle.am_search.specs.Plain.{kept_or_closed, last_or, dropped_or, rewritten_or, big_or, Judged, fated, prepare, fate_of, when_quiet, begun, start_prepared, next_start, row_judged, Start, at_first, Then, Choose, Infer, rows, judged, choices}
 use Rattle.am_search.specs.Rules.{Rules}
 use Rattle.am_search.specs.declared.fate.Fate.{Fate}
 use Rattle.am_search.specs.declared.fate.Fate.TheVariants.{Last}
@@ -30,7 +30,7 @@ module _ (c : Rules) (rs : List Row) (ns : List ℕ) where
 
   rewritten_last : (fates : List Prepared) (n : ℕ) (row : Row) (o : Option Row) (b : Bool) → (rewritten_or c rs fates n row o).1 ≡ Ended b → (rewritten_or c rs fates n row o).0 ≡ Last
   rewritten_last fates n row (Some x) b is = absurd (cc)
-  rewritten_last fates n row None b is = dropped_last n row (c.reason (kept c.axioms rs fates) row) b is
+  rewritten_last fates n row None b is = dropped_last n row (c.reason (kept_rows c.axioms rs fates) row) b is
 
   big_last : (fates : List Prepared) (n : ℕ) (row : Row) (o : Option Reason) (b : Bool) → (big_or c rs ns fates n row o).1 ≡ Ended b → (big_or c rs ns fates n row o).0 ≡ Last
   big_last fates n row (Some r) b is = absurd (cc)
@@ -61,10 +61,10 @@ module _ (c : Rules) (rs : List Row) (ns : List ℕ) where
   begun_ends : (left : ℕ) (j : Judged) → Ends_so j → Ends_so (begun c rs ns left j)
   begun_ends zero j e = e
   begun_ends (suc left) j e =
-      when_ends j.stage (begun c rs ns left (started c rs ns left j)) j
-      (begun_ends left (started c rs ns left j) (prepare_ends (next_start c j.left) (row_at rs (next_start c j.left)) (record j { left = left }) (λ row x. x) e)) e
+      when_ends j.stage (begun c rs ns left (start_prepared c rs ns left j)) j
+      (begun_ends left (start_prepared c rs ns left j) (prepare_ends (next_start c j.left) (row_at rs (next_start c j.left)) (record j { left = left }) (λ row x. x) e)) e
 
-  joined_ends : (n : ℕ) (row : Row) (s : Stage) (j : Judged) → row_at rs n ≡ Some row → Ends_so j → Ends_so (joined c rs ns n row s j)
+  joined_ends : (n : ℕ) (row : Row) (s : Stage) (j : Judged) → row_at rs n ≡ Some row → Ends_so j → Ends_so (row_judged c rs ns n row s j)
   joined_ends n row Quiet j at_ e = prepare_ends n (Some row) j (λ r x. at_ ∙ x) e
   joined_ends n row (Makes r) j at_ e = prepare_ends n (Some row) j (λ r x. at_ ∙ x) e
   joined_ends n row (Closes r) j at_ e = fated_ends n row (Last, Ended true) j at_ (λ b is. refl)
@@ -80,6 +80,6 @@ last_law c start (Then h (Infer row)) answer is =
     let rs : List Row = rows start h ++ row ∷ [] in
     let j : Judged = judged c start h in
     let n : ℕ = length (rows start h) + 1 in
-    let k : Judged = joined c rs (choices h) n row j.stage j in
+    let k : Judged = row_judged c rs (choices h) n row j.stage j in
     begun_ends c rs (choices h) k.left k
     (joined_ends c rs (choices h) n row j.stage j (row_found (rows start h) row []) (λ b e. ends_more (rows start h) (row ∷ []) j.fates (last_law c start h b e))) answer is

@@ -10,7 +10,7 @@ use Rattle.am_search.proofs.Replayed.{at_more, all_numbered}
 use Rattle.am_search.specs.Laws.{weighed, WeightLaw}
 use Rattle.am_search.specs.Marks.{is_kept, was_kept, was_chosen}
 use Rattle.am_search.specs.Members.{row_at, Member, shown, is_waiting, waiting, numbered_rows}
-use Rattle.am_search.specs.Plain.{Judged, big_or, prepare, fate_of, when_quiet, begun, started, next_start, joined, History, rows, judged, Start, at_first, Then, Choose, Infer, choices}
+use Rattle.am_search.specs.Plain.{Judged, big_or, prepare, fate_of, when_quiet, begun, start_prepared, next_start, row_judged, History, rows, judged, Start, at_first, Then, Choose, Infer, choices}
 use Rattle.am_simplify.specs.Reasons.{reason_if, too_big, is_wide, is_heavy_answer, are_heavy}
 use Rattle.am_search.specs.Rules.{Rules, rules_of, rules_of-too_big, rules_of-most}
 use Rattle.am_agenda.specs.declared.wait_row.WaitRow.{WaitRow}
@@ -81,10 +81,10 @@ module _ (sig : Signature) (ins : List SortId) (most axioms starting : ℕ) wher
     begun_lights : (left : ℕ) (j : Judged) → Lights j → Lights (begun the_rules rs ns left j)
     begun_lights zero j a = a
     begun_lights (suc left) j a =
-        when_lights j.stage (begun the_rules rs ns left (started the_rules rs ns left j)) j
-        (begun_lights left (started the_rules rs ns left j) (prepare_lights (next_start the_rules j.left) (row_at rs (next_start the_rules j.left)) (record j { left = left }) (λ row e. e) a)) a
+        when_lights j.stage (begun the_rules rs ns left (start_prepared the_rules rs ns left j)) j
+        (begun_lights left (start_prepared the_rules rs ns left j) (prepare_lights (next_start the_rules j.left) (row_at rs (next_start the_rules j.left)) (record j { left = left }) (λ row e. e) a)) a
 
-    joined_lights : (n : ℕ) (row : Row) (s : Stage) (j : Judged) → row_at rs n ≡ Some row → Lights j → Lights (joined the_rules rs ns n row s j)
+    joined_lights : (n : ℕ) (row : Row) (s : Stage) (j : Judged) → row_at rs n ≡ Some row → Lights j → Lights (row_judged the_rules rs ns n row s j)
     joined_lights n row Quiet j at_ a = prepare_lights n (Some row) j (λ r e. at_ ∙ e) a
     joined_lights n row (Makes r) j at_ a = prepare_lights n (Some row) j (λ r e. at_ ∙ e) a
     joined_lights n row (Closes r) j at_ a = lights_push rs j.fates (record { number = n; fate = Last }) a (λ is. absurd (cc))
@@ -97,7 +97,7 @@ module _ (sig : Signature) (ins : List SortId) (most axioms starting : ℕ) wher
       let rs : List Row = rows start h ++ row ∷ [] in
       let j : Judged = judged the_rules start h in
       let n : ℕ = length (rows start h) + 1 in
-      let k : Judged = joined the_rules rs (choices h) n row j.stage j in
+      let k : Judged = row_judged the_rules rs (choices h) n row j.stage j in
       begun_lights rs (choices h) k.left k (joined_lights rs (choices h) n row j.stage j (row_found (rows start h) row []) (lights_more (rows start h) (row ∷ []) j.fates (all_lights start h)))
 
   -- a kept row is light

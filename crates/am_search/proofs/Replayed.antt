@@ -7,14 +7,15 @@ use Rattle.am_clause.specs.declared.clause.Clause.{Clause}
 use Rattle.am_clause.specs.declared.row.Made.{Made}
 use Rattle.am_clause.specs.declared.row.Row.{Row}
 use Rattle.am_clause.specs.declared.row.Rule.{Rule}
+use Rattle.am_rules.specs.Inference.{row_of}
 use Rattle.am_search.proofs.Entered.{row_found}
-use Rattle.am_rules.specs.Conclusions.{factored, resolved, paramodulated, reflexed, rewritten, closed}
-use Rattle.am_search.specs.Candidates.{between, alone}
+use Rattle.am_rules.specs.Conclusions.{factored, resolved, paramodulated, reflexed, rewritten, closed_off}
+use Rattle.am_search.specs.Candidates.{candidates_between, candidates_alone}
 use Rattle.am_simplify.specs.Numbering.{with_numbers, or_else, find_map}
-use Rattle.am_search.specs.Members.{row_at, Member, numbered_rows, source_of, processed, is_processed, kept, is_empty, clause_row, clause_rows}
+use Rattle.am_search.specs.Members.{row_at, Member, numbered_rows, source_of, processed, is_processed, kept_rows, is_empty, clause_row, clause_rows}
 use Rattle.am_simplify.specs.Places.{places_of_atom}
-use Rattle.am_search.specs.Plain.{kept_or_closed, last_or, dropped_or, rewritten_or, big_or, Judged, prepare, when_quiet, begun, started, next_start, joined, turn_at, behind, rest_after, History, rows, judged, Start, at_first, Then, Choose, Infer, choices, rest, due_at, Infers, Follows, wait_list}
-use Rattle.am_search.specs.Replay.{on, on_both, only_if, replay, IsStep, Logged, StepsLaw}
+use Rattle.am_search.specs.Plain.{kept_or_closed, last_or, dropped_or, rewritten_or, big_or, Judged, prepare, when_quiet, begun, start_prepared, next_start, row_judged, turn_at, behind, rest_after, History, rows, judged, Start, at_first, Then, Choose, Infer, choices, rest, due_at, Infers, EachIsDue, wait_list}
+use Rattle.am_search.specs.Replay.{on, on_both, only_if, replay, IsReplayed, Logged, StepsLaw}
 use Rattle.am_search.specs.Rules.{Rules, rules_of, rules_of-close_of, rules_of-step_of, rules_of-turn, step_row, step_rule}
 use Rattle.am_simplify.specs.NormalStep.{made_by_rule, rewrite_with, rewrite_at, rewrite_in, step_without, first_to_go, normal_step}
 use Rattle.am_simplify.specs.Units.{units, unit_of, unit_with, unit_side}
@@ -23,7 +24,7 @@ use Rattle.am_simplify.specs.declared.step.StepRule.{StepRule}
 use Rattle.am_simplify.specs.declared.step.StepRule.TheVariants.{Reflex as Reflexes, Rewrite}
 use Rattle.am_simplify.specs.declared.step.Unit.{Unit}
 use Rattle.am_clause.specs.declared.row.Side.{Side}
-use Rattle.am_search.specs.Turn.{row_of, rule_of, tried, made_by, made_with, turn, all_made}
+use Rattle.am_search.specs.Turn.{rule_of, tried, row_made, made_with, turn, all_made}
 use Rattle.am_search.specs.declared.candidate.Candidate.{Candidate}
 use Rattle.am_search.specs.declared.candidate.Candidate.TheVariants.{Factor, Reflex, Resolve, Para}
 use Rattle.am_search.specs.declared.candidate.Way.TheVariants.{Inward, Outward}
@@ -90,10 +91,10 @@ module _ (sig : Signature) (ins : List SortId) where
   replay_more rs more (R.Resolve p i q j) m is = both_more (row_at rs p) (row_at (rs ++ more) p) (row_at rs q) (row_at (rs ++ more) q) (λ g d. resolved sig ins g i d j) m (at_more rs more p) (at_more rs more q) is
   replay_more rs more (R.Para p j side q i path) m is = both_more (row_at rs p) (row_at (rs ++ more) p) (row_at rs q) (row_at (rs ++ more) q) (λ g d. paramodulated sig ins g j side d i path) m (at_more rs more p) (at_more rs more q) is
   replay_more rs more (R.Rewrite p j side q i path) m is = only_more (j == 1) (on_both (row_at rs p) (row_at rs q) (λ g d. rewritten sig ins g side d i path)) (on_both (row_at (rs ++ more) p) (row_at (rs ++ more) q) (λ g d. rewritten sig ins g side d i path)) m (both_more (row_at rs p) (row_at (rs ++ more) p) (row_at rs q) (row_at (rs ++ more) q) (λ g d. rewritten sig ins g side d i path) m (at_more rs more p) (at_more rs more q)) is
-  replay_more rs more (R.Close p) m is = on_more (row_at rs p) (row_at (rs ++ more) p) (λ g. closed sig ins g) m (at_more rs more p) is
+  replay_more rs more (R.Close p) m is = on_more (row_at rs p) (row_at (rs ++ more) p) (λ g. closed_off sig ins g) m (at_more rs more p) is
 
   abbrev Steps : List Row → List Row → Type 0
-  Steps rs xs = AllByRecursion (IsStep sig ins rs) xs
+  Steps rs xs = AllByRecursion (IsReplayed sig ins rs) xs
 
   steps_more : (rs more xs : List Row) → Steps rs xs → Steps (rs ++ more) xs
   steps_more rs more [] a = tt
@@ -113,11 +114,11 @@ module _ (sig : Signature) (ins : List SortId) where
       )
 
   -- what a call answers, with its rule, is a step
-  mapped : (rs : List Row) (rule : Rule) (o : Option Made) (row : Row) → replay sig ins rs rule ≡ o → option_map (row_of rule) o ≡ Some row → IsStep sig ins rs row
+  mapped : (rs : List Row) (rule : Rule) (o : Option Made) (row : Row) → replay sig ins rs rule ≡ o → option_map (row_of rule) o ≡ Some row → IsReplayed sig ins rs row
   mapped rs rule None row is made = absurd (cc)
   mapped rs rule (Some m) row is made =
       let same : row_of rule m ≡ row = cc in
-      subst (λ (x : Row). IsStep sig ins rs x) same is
+      subst (λ (x : Row). IsReplayed sig ins rs x) same is
 
   replayed : (axioms : ℕ) (rs : List Row) (g p : Member) → IsAt rs g → IsAt rs p → (x : Candidate) → replay sig ins rs (rule_of g.number p.number x) ≡ tried sig ins g.row.clause p.row.clause x
   replayed axioms rs g p a b (Factor i j) = ap (λ (o : Option Row). on o (λ d. factored sig ins d i j)) a
@@ -126,22 +127,22 @@ module _ (sig : Signature) (ins : List SortId) where
   replayed axioms rs g p a b (Para Inward j side i path) = ap (λ (o : Option Row). on_both o (row_at rs g.number) (λ d e. paramodulated sig ins d j side e i path)) b ∙ ap (λ (o : Option Row). on o (λ e. paramodulated sig ins p.row.clause j side e i path)) a
   replayed axioms rs g p a b (Para Outward j side i path) = ap (λ (o : Option Row). on_both o (row_at rs p.number) (λ d e. paramodulated sig ins d j side e i path)) a ∙ ap (λ (o : Option Row). on o (λ e. paramodulated sig ins g.row.clause j side e i path)) b
 
-  made_step : (axioms : ℕ) (rs : List Row) (g p : Member) → IsAt rs g → IsAt rs p → (x : Candidate) (row : Row) → made_by sig ins (source_of axioms g) (source_of axioms p) x ≡ Some row → IsStep sig ins rs row
-  unfolding made_by
+  made_step : (axioms : ℕ) (rs : List Row) (g p : Member) → IsAt rs g → IsAt rs p → (x : Candidate) (row : Row) → row_made sig ins (source_of axioms g) (source_of axioms p) x ≡ Some row → IsReplayed sig ins rs row
+  unfolding row_made
   made_step axioms rs g p a b x row is = mapped rs (rule_of g.number p.number x) (tried sig ins g.row.clause p.row.clause x) row (replayed axioms rs g p a b x) is
 
   partners_steps : (axioms : ℕ) (rs : List Row) (g : Member) (ms : List Member) → IsAt rs g → AllByRecursion (IsAt rs) ms → Steps rs (flat_map (made_with sig ins (source_of axioms g)) (map (source_of axioms) ms))
   partners_steps axioms rs g [] a b = tt
   partners_steps axioms rs g (m ∷ ms) a b =
-      all_append (IsStep sig ins rs) (made_with sig ins (source_of axioms g) (source_of axioms m)) (flat_map (made_with sig ins (source_of axioms g)) (map (source_of axioms) ms))
-      (all_filter_map (IsStep sig ins rs) (made_by sig ins (source_of axioms g) (source_of axioms m)) (between sig (source_of axioms g) (source_of axioms m)) (made_step axioms rs g m a b.0))
+      all_append (IsReplayed sig ins rs) (made_with sig ins (source_of axioms g) (source_of axioms m)) (flat_map (made_with sig ins (source_of axioms g)) (map (source_of axioms) ms))
+      (all_filter_map (IsReplayed sig ins rs) (row_made sig ins (source_of axioms g) (source_of axioms m)) (candidates_between sig (source_of axioms g) (source_of axioms m)) (made_step axioms rs g m a b.0))
       (partners_steps axioms rs g ms a b.1)
 
   turn_steps : (axioms : ℕ) (rs : List Row) (g : Member) (ms : List Member) → IsAt rs g → AllByRecursion (IsAt rs) ms → Steps rs (turn sig ins (source_of axioms g) (map (source_of axioms) ms))
   unfolding turn
   turn_steps axioms rs g ms a b =
-      all_append (IsStep sig ins rs) (all_made sig ins (source_of axioms g) (source_of axioms g) (alone (source_of axioms g))) (flat_map (made_with sig ins (source_of axioms g)) (map (source_of axioms) ms))
-      (all_filter_map (IsStep sig ins rs) (made_by sig ins (source_of axioms g) (source_of axioms g)) (alone (source_of axioms g)) (made_step axioms rs g g a a))
+      all_append (IsReplayed sig ins rs) (all_made sig ins (source_of axioms g) (source_of axioms g) (candidates_alone (source_of axioms g))) (flat_map (made_with sig ins (source_of axioms g)) (map (source_of axioms) ms))
+      (all_filter_map (IsReplayed sig ins rs) (row_made sig ins (source_of axioms g) (source_of axioms g)) (candidates_alone (source_of axioms g)) (made_step axioms rs g g a a))
       (partners_steps axioms rs g ms a b)
 
   -- a unit is a row that stands at its number
@@ -162,7 +163,7 @@ module _ (sig : Signature) (ins : List SortId) where
 
   -- a normal step of the row of a number, as a row
   abbrev IsStepOf : List Row → ℕ → RewriteMade → Type 0
-  IsStepOf rs n made = IsStep sig ins rs (step_row n made)
+  IsStepOf rs n made = IsReplayed sig ins rs (step_row n made)
 
   or_made : (rs : List Row) (n : ℕ) (o e : Option RewriteMade) (m : RewriteMade) → ((r : RewriteMade) → o ≡ Some r → IsStepOf rs n r) → ((r : RewriteMade) → e ≡ Some r → IsStepOf rs n r) → or_else o e ≡ Some m → IsStepOf rs n m
   or_made rs n (Some r) e m k l is = k m is
@@ -198,27 +199,27 @@ module _ (sig : Signature) (ins : List SortId) where
       (λ e r here_. find_made rs q.number (rewrite_at sig ins us q.row.clause e.0) (places_of_atom e.1.atom) r
       (λ path x there. rewrite_steps rs q e.0 path us x a b there) here_) is
 
-  stepped : (rs : List Row) (n : ℕ) (o : Option RewriteMade) (row : Row) → ((m : RewriteMade) → o ≡ Some m → IsStepOf rs n m) → option_map (step_row n) o ≡ Some row → IsStep sig ins rs row
+  stepped : (rs : List Row) (n : ℕ) (o : Option RewriteMade) (row : Row) → ((m : RewriteMade) → o ≡ Some m → IsStepOf rs n m) → option_map (step_row n) o ≡ Some row → IsReplayed sig ins rs row
   stepped rs n None row k is = absurd (cc)
   stepped rs n (Some m) row k is =
       let same : step_row n m ≡ row = cc in
-      subst (λ (x : Row). IsStep sig ins rs x) same (k m refl)
+      subst (λ (x : Row). IsReplayed sig ins rs x) same (k m refl)
 
   by_step : (rs : List Row) (q : Member) (ms : List Member) (row : Row) → IsAt rs q → AllByRecursion (IsAt rs) ms
-      → option_map (step_row q.number) (normal_step sig ins (clause_rows ms) q.row.clause) ≡ Some row → IsStep sig ins rs row
+      → option_map (step_row q.number) (normal_step sig ins (clause_rows ms) q.row.clause) ≡ Some row → IsReplayed sig ins rs row
   by_step rs q ms row a b is =
       stepped rs q.number (normal_step sig ins (clause_rows ms) q.row.clause) row
       (λ m e. without_steps rs q (units sig (clause_rows ms)) (first_to_go q.row.clause.literals) m a (units_stand rs ms b) e) is
 
-  close_step : (rs : List Row) (n : ℕ) (from row : Row) (b : Bool) → row_at rs n ≡ Some from → (if b then option_map (row_of (R.Close n)) (closed sig ins from.clause) else None) ≡ Some row → IsStep sig ins rs row
-  close_step rs n from row true a is = mapped rs (R.Close n) (closed sig ins from.clause) row (ap (λ (o : Option Row). on o (λ d. closed sig ins d)) a) is
+  close_step : (rs : List Row) (n : ℕ) (from row : Row) (b : Bool) → row_at rs n ≡ Some from → (if b then option_map (row_of (R.Close n)) (closed_off sig ins from.clause) else None) ≡ Some row → IsReplayed sig ins rs row
+  close_step rs n from row true a is = mapped rs (R.Close n) (closed_off sig ins from.clause) row (ap (λ (o : Option Row). on o (λ d. closed_off sig ins d)) a) is
   close_step rs n from row false a is = absurd (cc)
 
   -- what a stage asks for is a step
   abbrev StageStep : List Row → Stage → Type 0
   StageStep rs Quiet = Prim.Unit {0}
-  StageStep rs (Makes row) = IsStep sig ins rs row
-  StageStep rs (Closes row) = IsStep sig ins rs row
+  StageStep rs (Makes row) = IsReplayed sig ins rs row
+  StageStep rs (Closes row) = IsReplayed sig ins rs row
   StageStep rs (Ended b) = Prim.Unit {0}
 
   stage_more : (rs more : List Row) (s : Stage) → StageStep rs s → StageStep (rs ++ more) s
@@ -248,7 +249,7 @@ module _ (sig : Signature) (ins : List SortId) where
 
     rewritten_stage : (rs : List Row) (ns : List ℕ) (fates : List Prepared) (n : ℕ) (row : Row) (o : Option Row) → row_at rs n ≡ Some row
         → the_rules.step_of (processed the_rules.axioms rs ns) n row ≡ o → StageStep rs (rewritten_or the_rules rs fates n row o).1
-    rewritten_stage rs ns fates n row None a is = dropped_stage rs n row (the_rules.reason (kept the_rules.axioms rs fates) row) a
+    rewritten_stage rs ns fates n row None a is = dropped_stage rs n row (the_rules.reason (kept_rows the_rules.axioms rs fates) row) a
     rewritten_stage rs ns fates n row (Some x) a is =
         by_step rs (record { number = n; row = row }) (processed the_rules.axioms rs ns) x a (processed_at the_rules.axioms rs ns)
         (sym (rules_of-step_of sig ins most axioms starting (processed the_rules.axioms rs ns) n row) ∙ is)
@@ -270,11 +271,11 @@ module _ (sig : Signature) (ins : List SortId) where
     begun_stage : (rs : List Row) (ns : List ℕ) (left : ℕ) (j : Judged) → StageStep rs j.stage → StageStep rs (begun the_rules rs ns left j).stage
     begun_stage rs ns zero j s = s
     begun_stage rs ns (suc left) j s =
-        when_stage rs j.stage (begun the_rules rs ns left (started the_rules rs ns left j)) j
-        (begun_stage rs ns left (started the_rules rs ns left j)
+        when_stage rs j.stage (begun the_rules rs ns left (start_prepared the_rules rs ns left j)) j
+        (begun_stage rs ns left (start_prepared the_rules rs ns left j)
         (prepared_stage rs ns (next_start the_rules j.left) (row_at rs (next_start the_rules j.left)) (record j { left = left }) (λ row e. e) s)) s
 
-    joined_stage : (rs : List Row) (ns : List ℕ) (n : ℕ) (row : Row) (s : Stage) (j : Judged) → row_at rs n ≡ Some row → StageStep rs j.stage → StageStep rs (joined the_rules rs ns n row s j).stage
+    joined_stage : (rs : List Row) (ns : List ℕ) (n : ℕ) (row : Row) (s : Stage) (j : Judged) → row_at rs n ≡ Some row → StageStep rs j.stage → StageStep rs (row_judged the_rules rs ns n row s j).stage
     joined_stage rs ns n row Quiet j a k = prepared_stage rs ns n (Some row) j (λ r e. a ∙ e) k
     joined_stage rs ns n row (Makes r) j a k = prepared_stage rs ns n (Some row) j (λ r e. a ∙ e) k
     joined_stage rs ns n row (Closes r) j a k = tt
@@ -303,7 +304,7 @@ module _ (sig : Signature) (ins : List SortId) where
     all_stages start (Then h (Infer row)) =
         let rs : List Row = rows start h ++ row ∷ [] in
         let j : Judged = judged the_rules start h in
-        let k : Judged = joined the_rules rs (choices h) (length (rows start h) + 1) row j.stage j in
+        let k : Judged = row_judged the_rules rs (choices h) (length (rows start h) + 1) row j.stage j in
         begun_stage rs (choices h) k.left k
         (joined_stage rs (choices h) (length (rows start h) + 1) row j.stage j (row_found (rows start h) row []) (stage_more (rows start h) (row ∷ []) j.stage (all_stages start h)))
 
@@ -314,15 +315,15 @@ module _ (sig : Signature) (ins : List SortId) where
         steps_more (rows start h) (row ∷ []) (rest_after (judged the_rules start h).stage (rest the_rules start h))
         (rest_steps (rows start h) (rest the_rules start h) (judged the_rules start h).stage (all_rests start h))
 
-    due_step : (rs : List Row) (waits : List WaitRow) (xs : List Row) (s : Stage) (row : Row) → StageStep rs s → Steps rs xs → due_at waits xs s ≡ Infers row → IsStep sig ins rs row
+    due_step : (rs : List Row) (waits : List WaitRow) (xs : List Row) (s : Stage) (row : Row) → StageStep rs s → Steps rs xs → due_at waits xs s ≡ Infers row → IsReplayed sig ins rs row
     due_step rs waits xs (Ended b) row a k is = absurd (cc)
-    due_step rs waits xs (Makes r) row a k is = let same : r ≡ row = cc in subst (λ (x : Row). IsStep sig ins rs x) same a
-    due_step rs waits xs (Closes r) row a k is = let same : r ≡ row = cc in subst (λ (x : Row). IsStep sig ins rs x) same a
-    due_step rs waits (x ∷ xs) Quiet row a k is = let same : x ≡ row = cc in subst (λ (y : Row). IsStep sig ins rs y) same k.0
+    due_step rs waits xs (Makes r) row a k is = let same : r ≡ row = cc in subst (λ (x : Row). IsReplayed sig ins rs x) same a
+    due_step rs waits xs (Closes r) row a k is = let same : r ≡ row = cc in subst (λ (x : Row). IsReplayed sig ins rs x) same a
+    due_step rs waits (x ∷ xs) Quiet row a k is = let same : x ≡ row = cc in subst (λ (y : Row). IsReplayed sig ins rs y) same k.0
     due_step rs (w ∷ ws) [] Quiet row a k is = absurd (cc)
     due_step rs [] [] Quiet row a k is = absurd (cc)
 
-    all_logged : (start : List Row) (h : History) → Follows the_rules start h → Logged sig ins start h
+    all_logged : (start : List Row) (h : History) → EachIsDue the_rules start h → Logged sig ins start h
     all_logged start Start f = tt
     all_logged start (Then h (Choose n)) f = all_logged start h f.1
     all_logged start (Then h (Infer row)) f =

@@ -10,7 +10,7 @@ use Rattle.am_clause.specs.declared.clause.Clause.{Clause}
 use Rattle.am_clause.specs.declared.row.Row.{Row}
 use Rattle.am_diagram.specs.Facts.{drawn}
 use Rattle.am_diagram.specs.Clauses.{goal, givens}
-use Rattle.am_diagram.specs.Listed.{sorts_in}
+use Rattle.am_diagram.specs.Listed.{entry_sorts}
 use Rattle.am_diagram.specs.Steps.{formulas_of}
 use Rattle.am_diagram.specs.declared.diagram.Diagram.{Diagram}
 use Rattle.am_search.proofs.Lasts.{last_law}
@@ -18,7 +18,7 @@ use Rattle.am_search.proofs.Rooted.{parents_law, at_within}
 use Rattle.am_search.specs.Laws.{EndsWithLast}
 use Rattle.am_search.specs.Members.{numbered_rows}
 use Rattle.am_search.specs.Outcomes.{Outcomes, last_from, last_number}
-use Rattle.am_search.specs.Plain.{Due, Ends, Infers, Chooses, History, Follows, Pick, rows, judged, due, due_at, due_turn, end_by, read, wait_of, rest}
+use Rattle.am_search.specs.Plain.{Due, Ends, Infers, Chooses, History, EachIsDue, Pick, rows, judged, due, due_at, due_turn, end_by, reading_at, wait_of, rest}
 use Rattle.am_search.specs.Replay.{HasNoParents, IsBelow, IsRooted}
 use Rattle.am_search.specs.Rules.{Rules, rules_of}
 use Rattle.am_search.specs.Searched.{HasLast, HasLog, HasLogFrom, IsLogOf, IsSearched, choices_in, end_of, entries_in, rules_for}
@@ -78,10 +78,10 @@ ordered_rows : (rs : List Row) → AllByRecursion IsRooted (numbered_rows 1 rs) 
 ordered_rows rs a zero r at_ = absurd (cc)
 ordered_rows rs a (suc i) r at_ = lower (suc i) ((1 + i) - 1) (parents_of r.rule) (omega arith) (rooted_at 1 i rs r a at_)
 
-pub history_ordered : (t : Theory) (d : Diagram) (most : ℕ) (h : History) → Follows (rules_for t d most) (starting_rows t d) h → AreOrdered (rows (starting_rows t d) h)
+pub history_ordered : (t : Theory) (d : Diagram) (most : ℕ) (h : History) → EachIsDue (rules_for t d most) (starting_rows t d) h → AreOrdered (rows (starting_rows t d) h)
 history_ordered t d most h f =
     ordered_rows (rows (starting_rows t d) h)
-    (parents_law t.sig (sorts_in d.inputs) most (length (theory_rows t)) (length (starting_rows t d)) (starting_rows t d) h (starting_bare t d) f)
+    (parents_law t.sig (entry_sorts d.inputs) most (length (theory_rows t)) (length (starting_rows t d)) (starting_rows t d) h (starting_bare t d) f)
 
 -- ---- the last row
 
@@ -129,7 +129,7 @@ last_row : (t : Theory) (d : Diagram) (most limit made n : ℕ) (h : History) (b
 last_row t d most limit made n h b is number =
     let c : Rules = rules_for t d most in
     let start : List Row = starting_rows t d in
-    let stage : (judged c start h).stage ≡ Ended b = ended_by (wait_of c (read c start h)) (rest c start h) (judged c start h).stage b (by_due limit made (due c start h) b is) in
+    let stage : (judged c start h).stage ≡ Ended b = ended_by (wait_of c (reading_at c start h)) (rest c start h) (judged c start h).stage b (by_due limit made (due c start h) b is) in
     let e = last_law c start h b stage in
     record {
       ends = e;
@@ -190,7 +190,7 @@ reported t d limits pick e all es chosen n x given_ ends entries_are choices_are
 
 -- the outcome for what was made of the theory and the diagram
 pub as_asked : (t : Theory) (d : Diagram) (most limit : ℕ) (pick : Pick) (sorts : List SortId) (axioms : List Row) (asked : Clause) (facts : List Clause) (e : End) (all : List Row) (es : List Entry) (chosen : List ℕ) (n : ℕ)
-    → sorts ≡ sorts_in d.inputs → axioms ≡ theory_rows t → asked ≡ goal d → facts ≡ givens d
+    → sorts ≡ entry_sorts d.inputs → axioms ≡ theory_rows t → asked ≡ goal d → facts ≡ givens d
     → Outcomes (rules_of t.sig sorts most (length axioms) (length (rows_at_first axioms asked facts))) (rows_at_first axioms asked facts) limit pick e all es chosen n
     → Outcomes (rules_for t d most) (starting_rows t d) limit pick e all es chosen n
 as_asked t d most limit pick sorts axioms asked facts e all es chosen n sorts_are axioms_are asked_is facts_are o =

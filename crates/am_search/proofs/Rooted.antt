@@ -10,7 +10,7 @@ use Rattle.am_clause.specs.declared.row.Row.{Row}
 use Rattle.am_clause.specs.declared.row.Rule.{Rule}
 use Rattle.am_search.proofs.Fewer.{numbered_push}
 use Rattle.am_search.proofs.Replayed.{steps_law}
-use Rattle.am_rules.specs.Conclusions.{factored, resolved, paramodulated, reflexed, rewritten, closed}
+use Rattle.am_rules.specs.Conclusions.{factored, resolved, paramodulated, reflexed, rewritten, closed_off}
 use Rattle.am_search.specs.Members.{row_at, Member, numbered_rows}
 use Rattle.am_search.specs.Plain.{History, rows, Start, Then, Choose, Infer}
 use Rattle.am_search.specs.Replay.{IsBelow, on, on_both, only_if, replay, IsRooted, HasNoParents, Logged, ParentsLaw}
@@ -58,7 +58,7 @@ named sig ins rs (R.Para p j side q i path) m is =
     let r = both_within rs p q (row_at rs p) (row_at rs q) (λ g d. paramodulated sig ins g j side d i path) m refl refl is in (r.0, (r.1, tt))
 named sig ins rs (R.Rewrite p j side q i path) m is =
     let r = both_within rs p q (row_at rs p) (row_at rs q) (λ g d. rewritten sig ins g side d i path) m refl refl (only_then (j == 1) (on_both (row_at rs p) (row_at rs q) (λ g d. rewritten sig ins g side d i path)) m is) in (r.0, (r.1, tt))
-named sig ins rs (R.Close p) m is = (on_within rs p (row_at rs p) (λ g. closed sig ins g) m refl is, tt)
+named sig ins rs (R.Close p) m is = (on_within rs p (row_at rs p) (λ g. closed_off sig ins g) m refl is, tt)
 
 rooted_push : (ms : List Member) (m : Member) → AllByRecursion IsRooted ms → IsRooted m → AllByRecursion IsRooted (ms ++ m ∷ [])
 rooted_push [] m a b = (b, tt)

@@ -3,8 +3,8 @@ use Rattle.std.specs.Prelude.{ℕ, ◌≡◌, Some, nat_lt, false, Bool, None, L
 use Rattle.std.proofs.Common.{arith, ap, refl, subst, sym, ◌∙◌, append-nil, append_assoc}
 use Rattle.std.proofs.lemmas.Bool.Decides.{nat_tests}
 use Rattle.am_clause.specs.declared.row.Row.{Row}
-use Rattle.am_search.specs.Outcomes.{kind_of, advance_by, Stands, advanced, Outcomes, last_number}
-use Rattle.am_search.specs.Plain.{Due, end_by, Infers, Chooses, Ends, Reading, after, Infer, due_at, due_of, wait_of, Pick, read, Start, due, Then, picked_at, Choose, lists_shown, entries_of}
+use Rattle.am_search.specs.Outcomes.{due_kind, advance_by, StandsFor, advanced, Outcomes, last_number}
+use Rattle.am_search.specs.Plain.{Due, end_by, Infers, Chooses, Ends, Reading, after, Infer, due_at, due_of, wait_of, Pick, reading_at, Start, due, Then, picked_at, Choose, lists_shown, entries_of}
 use Rattle.am_search.specs.Rules.{Rules}
 use Rattle.am_simplify.specs.NormalStep.{goes}
 use Rattle.am_agenda.specs.declared.wait_row.WaitRow.{WaitRow}
@@ -16,29 +16,29 @@ use Rattle.am_search.specs.declared.fate.Stage.{Stage}
 use Rattle.am_search.specs.declared.fate.Stage.TheVariants.{Ended, Makes, Closes, Quiet}
 
 -- what has the kind of an end is that end
-ends_kind : (limit made : ℕ) (d : Due) (end : End) → kind_of d ≡ Ending end → end_by limit made d ≡ Some end
+ends_kind : (limit made : ℕ) (d : Due) (end : End) → due_kind d ≡ Ending end → end_by limit made d ≡ Some end
 ends_kind limit made (Infers row) end is = cc
 ends_kind limit made Chooses end is = cc
 ends_kind limit made (Ends e) end is = cc
 
-spent_kind : (limit made : ℕ) (d : Due) → kind_of d ≡ Inferring → made ≡ limit → end_by limit made d ≡ Some Spent
+spent_kind : (limit made : ℕ) (d : Due) → due_kind d ≡ Inferring → made ≡ limit → end_by limit made d ≡ Some Spent
 spent_kind limit made (Infers row) is all =
     let isnt : nat_lt made limit ≡ false = grind (arith, nat_tests) in
     ap (λ (b : Bool). if b then None else Some Spent) isnt
 spent_kind limit made Chooses is all = cc
 spent_kind limit made (Ends e) is all = cc
 
-pub due_by : (c : Rules) (v w : Reading) (d : Due) → kind_of d ≡ Inferring → w ≡ advance_by c v d → (row : Row) × (d ≡ Infers row) × (w ≡ after c (Infer row) v)
+pub due_by : (c : Rules) (v w : Reading) (d : Due) → due_kind d ≡ Inferring → w ≡ advance_by c v d → (row : Row) × (d ≡ Infers row) × (w ≡ after c (Infer row) v)
 due_by c v w (Infers row) is goes = (row, refl, goes)
 due_by c v w Chooses is goes = absurd (cc)
 due_by c v w (Ends e) is goes = absurd (cc)
 
-pub chooses_by : (d : Due) → kind_of d ≡ Choosing → d ≡ Chooses
+pub chooses_by : (d : Due) → due_kind d ≡ Choosing → d ≡ Chooses
 chooses_by (Infers row) is = cc
 chooses_by Chooses is = refl
 chooses_by (Ends e) is = cc
 
-some_wait : (waits : List WaitRow) (rs : List Row) (stage : Stage) → kind_of (due_at waits rs stage) ≡ Choosing → waits ≢ []
+some_wait : (waits : List WaitRow) (rs : List Row) (stage : Stage) → due_kind (due_at waits rs stage) ≡ Choosing → waits ≢ []
 some_wait (w ∷ ws) rs stage is = λ e. cc
 some_wait [] rs (Ended b) is = λ e. cc
 some_wait [] rs (Makes row) is = λ e. cc
@@ -47,11 +47,11 @@ some_wait [] [] Quiet is = λ e. cc
 some_wait [] (r ∷ rs) Quiet is = λ e. cc
 
 -- where a choice is due, some row waits
-pub waits_some : (c : Rules) (v : Reading) (waits : List WaitRow) → kind_of (due_of c v) ≡ Choosing → waits ≡ wait_of c v → waits ≢ []
+pub waits_some : (c : Rules) (v : Reading) (waits : List WaitRow) → due_kind (due_of c v) ≡ Choosing → waits ≡ wait_of c v → waits ≢ []
 waits_some c v waits is are = subst (λ (ws : List WaitRow). ws ≢ []) (sym are) (some_wait (wait_of c v) v.rest v.judged.stage is)
 
 -- at first
-pub stands_start : (c : Rules) (start : List Row) (limit : ℕ) (first : Pick) (v : Reading) → v ≡ read c start Start → Stands c start limit first v 0 first
+pub stands_start : (c : Rules) (start : List Row) (limit : ℕ) (first : Pick) (v : Reading) → v ≡ reading_at c start Start → StandsFor c start limit first v 0 first
 stands_start c start limit first v is = record {
   history = Start;
   reads = sym is;
@@ -63,7 +63,7 @@ stands_start c start limit first v is = record {
 }
 
 -- the same reading
-pub stands_same : (c : Rules) (start : List Row) (limit : ℕ) (first : Pick) (v w : Reading) (made : ℕ) (now : Pick) → Stands c start limit first v made now → w ≡ v → Stands c start limit first w made now
+pub stands_same : (c : Rules) (start : List Row) (limit : ℕ) (first : Pick) (v w : Reading) (made : ℕ) (now : Pick) → StandsFor c start limit first v made now → w ≡ v → StandsFor c start limit first w made now
 stands_same c start limit first v w made now s is = record {
   history = s.history;
   reads = s.reads ∙ sym is;
@@ -75,7 +75,7 @@ stands_same c start limit first v w made now s is = record {
 }
 
 stands_infer : (c : Rules) (start : List Row) (limit : ℕ) (first : Pick) (v w : Reading) (made : ℕ) (now : Pick) (row : Row)
-    → Stands c start limit first v made now → due_of c v ≡ Infers row → made < limit → w ≡ after c (Infer row) v → Stands c start limit first w (made + 1) now
+    → StandsFor c start limit first v made now → due_of c v ≡ Infers row → made < limit → w ≡ after c (Infer row) v → StandsFor c start limit first w (made + 1) now
 stands_infer c start limit first v w made now row s due few is = record {
   history = Then s.history (Infer row);
   reads = ap (after c (Infer row)) s.reads ∙ sym is;
@@ -88,7 +88,7 @@ stands_infer c start limit first v w made now row s due few is = record {
 
 -- after an inference
 pub infers_on : (c : Rules) (start : List Row) (limit : ℕ) (first : Pick) (v w : Reading) (made : ℕ) (now : Pick)
-    → Stands c start limit first v made now → kind_of (due_of c v) ≡ Inferring → made ≢ limit → w ≡ advanced c v → Stands c start limit first w (made + 1) now
+    → StandsFor c start limit first v made now → due_kind (due_of c v) ≡ Inferring → made ≢ limit → w ≡ advanced c v → StandsFor c start limit first w (made + 1) now
 infers_on c start limit first v w made now s is isnt goes =
     let r = due_by c v w (due_of c v) is goes in
     let few : made ≤ limit = s.few in
@@ -96,11 +96,11 @@ infers_on c start limit first v w made now s is isnt goes =
 
 -- after a choice
 pub chooses_on : (c : Rules) (start : List Row) (limit : ℕ) (first : Pick) (v w : Reading) (made n : ℕ) (now next : Pick) (waits : List WaitRow)
-    → Stands c start limit first v made now → kind_of (due_of c v) ≡ Choosing → waits ≡ wait_of c v
+    → StandsFor c start limit first v made now → due_kind (due_of c v) ≡ Choosing → waits ≡ wait_of c v
     → picked_at waits (now [] waits) ≡ Some n
     → ((past : List (List WaitRow)) (list : List WaitRow) → next past list ≡ now (waits ∷ past) list)
     → w ≡ after c (Choose n) v
-    → Stands c start limit first w made next
+    → StandsFor c start limit first w made next
 chooses_on c start limit first v w made n now next waits s is are picks goes after_ = record {
   history = Then s.history (Choose n);
   reads = ap (after c (Choose n)) s.reads ∙ sym after_;
@@ -127,7 +127,7 @@ pub record Answered (c : Rules) (v : Reading) (end : End) (last : End) (all : Li
   pub last_is : n_ ≡ last_number v.judged.fates
 
 ended : (c : Rules) (start : List Row) (limit : ℕ) (first : Pick) (v : Reading) (made : ℕ) (now : Pick) (end last : End) (all : List Row) (es : List Entry) (chosen : List ℕ) (n_ : ℕ)
-    → (s : Stands c start limit first v made now) → end_by limit made (due_of c v) ≡ Some end → Answered c v end last all es chosen n_ → Outcomes c start limit first last all es chosen n_
+    → (s : StandsFor c start limit first v made now) → end_by limit made (due_of c v) ≡ Some end → Answered c v end last all es chosen n_ → Outcomes c start limit first last all es chosen n_
 ended c start limit first v made now end last all es chosen n_ s is a = record {
   history = s.history;
   plain = record {
@@ -144,10 +144,10 @@ ended c start limit first v made now end last all es chosen n_ s is a = record {
 
 -- the end that is due
 pub ends_so : (c : Rules) (start : List Row) (limit : ℕ) (first : Pick) (v : Reading) (made : ℕ) (now : Pick) (end last : End) (all : List Row) (es : List Entry) (chosen : List ℕ) (n_ : ℕ)
-    → Stands c start limit first v made now → kind_of (due_of c v) ≡ Ending end → Answered c v end last all es chosen n_ → Outcomes c start limit first last all es chosen n_
+    → StandsFor c start limit first v made now → due_kind (due_of c v) ≡ Ending end → Answered c v end last all es chosen n_ → Outcomes c start limit first last all es chosen n_
 ends_so c start limit first v made now end last all es chosen n_ s is a = ended c start limit first v made now end last all es chosen n_ s (ends_kind limit made (due_of c v) end is) a
 
 -- the budget is spent
 pub spent_so : (c : Rules) (start : List Row) (limit : ℕ) (first : Pick) (v : Reading) (made : ℕ) (now : Pick) (last : End) (all : List Row) (es : List Entry) (chosen : List ℕ) (n_ : ℕ)
-    → Stands c start limit first v made now → kind_of (due_of c v) ≡ Inferring → made ≡ limit → Answered c v Spent last all es chosen n_ → Outcomes c start limit first last all es chosen n_
+    → StandsFor c start limit first v made now → due_kind (due_of c v) ≡ Inferring → made ≡ limit → Answered c v Spent last all es chosen n_ → Outcomes c start limit first last all es chosen n_
 spent_so c start limit first v made now last all es chosen n_ s is all_ a = ended c start limit first v made now Spent last all es chosen n_ s (spent_kind limit made (due_of c v) is all_) a

@@ -3,10 +3,10 @@ use Rattle.std.specs.Prelude.{List, ◌≡◌, ℕ, ◌++◌, ◌∷◌, Some, [
 use Rattle.std.proofs.Common.{subst, inl, inr, ap, ◌∙◌, sym, append-nil, append_assoc}
 use Rattle.am_clause.specs.declared.row.Row.{Row}
 use Rattle.am_search.proofs.Standing.{Answered, ends_so, spent_so}
-use Rattle.am_search.specs.Outcomes.{Stands, kind_of, Outcomes}
+use Rattle.am_search.specs.Outcomes.{StandsFor, due_kind, Outcomes}
 use Rattle.am_search.specs.Plain.{Pick, History, Picked, Start, Then, Infer, Choose, lists_shown, Reading, wait_of, picked_at, wait_list, due_of}
 use Rattle.am_search.specs.Rules.{Rules}
-use Rattle.am_search.specs.Searching.{GoesOn, StandsAt, Run, TurnOf, Stops}
+use Rattle.am_search.specs.Searching.{GoesOn, StandsAt, Run, TurnOf, StopsInferring}
 use Rattle.am_simplify.specs.NormalStep.{goes}
 use Rattle.am_agenda.specs.declared.wait_row.WaitRow.{WaitRow}
 use Rattle.am_search.specs.declared.fate.End.{End}
@@ -27,11 +27,11 @@ goes_shown c start h (Then k (Infer row)) (inl g) = ap (lists_shown c start) g
 goes_shown c start h (Then k (Infer row)) (inr g) = goes_shown c start h k g
 goes_shown c start h (Then k (Choose n)) g = ap (lists_shown c start) g
 
-pub at_of : (c : Rules) (start : List Row) (limit : ℕ) (first : Pick) (v : Reading) (made : ℕ) (now : Pick) → (s : Stands c start limit first v made now) → StandsAt c start limit s.history v made
+pub at_of : (c : Rules) (start : List Row) (limit : ℕ) (first : Pick) (v : Reading) (made : ℕ) (now : Pick) → (s : StandsFor c start limit first v made now) → StandsAt c start limit s.history v made
 at_of c start limit first v made now s = record { reads = s.reads; follows = s.follows; counts = s.counts; few = s.few }
 
 -- after the inferences from the start
-pub stands_run : (c : Rules) (start : List Row) (limit : ℕ) (first : Pick) (w : Reading) (made : ℕ) → Run c start limit Start w made → Stands c start limit first w made first
+pub stands_run : (c : Rules) (start : List Row) (limit : ℕ) (first : Pick) (w : Reading) (made : ℕ) → Run c start limit Start w made → StandsFor c start limit first w made first
 stands_run c start limit first w made r = record {
   history = r.history;
   reads = r.stands.reads;
@@ -44,9 +44,9 @@ stands_run c start limit first w made r = record {
 
 -- after a turn
 pub stands_turn : (c : Rules) (start : List Row) (limit : ℕ) (first : Pick) (v w : Reading) (made after_made : ℕ) (now next : Pick) (turned : Turned)
-    → (s : Stands c start limit first v made now) → TurnOf c start limit now s.history v w after_made turned
+    → (s : StandsFor c start limit first v made now) → TurnOf c start limit now s.history v w after_made turned
     → ((past : List (List WaitRow)) (list : List WaitRow) → next past list ≡ now (wait_of c v ∷ past) list)
-    → Stands c start limit first w after_made next
+    → StandsFor c start limit first w after_made next
 stands_turn c start limit first v w made after_made now next turned s t goes =
     let h : History = s.history in
     let r : Run c start limit (Then h (Choose t.chosen)) w after_made = t.runs.run in
@@ -68,7 +68,7 @@ stands_turn c start limit first v w made after_made now next turned s t goes =
 
 -- the end of the last turn
 pub over_so : (c : Rules) (start : List Row) (limit : ℕ) (first : Pick) (v : Reading) (made : ℕ) (now : Pick) (end last : End) (all : List Row) (es : List Entry) (chosen : List ℕ) (n_ : ℕ)
-    → Stands c start limit first v made now → Stops limit made (kind_of (due_of c v)) (Over end) → Answered c v end last all es chosen n_ → Outcomes c start limit first last all es chosen n_
+    → StandsFor c start limit first v made now → StopsInferring limit made (due_kind (due_of c v)) (Over end) → Answered c v end last all es chosen n_ → Outcomes c start limit first last all es chosen n_
 over_so c start limit first v made now Found last all es chosen n_ s t a = ends_so c start limit first v made now Found last all es chosen n_ s t a
 over_so c start limit first v made now Contradiction last all es chosen n_ s t a = ends_so c start limit first v made now Contradiction last all es chosen n_ s t a
 over_so c start limit first v made now Exhausted last all es chosen n_ s t a = ends_so c start limit first v made now Exhausted last all es chosen n_ s t a

@@ -38,33 +38,33 @@ abbrev pub only : {A : Type 0} → Bool → A → List A
 only true x = x ∷ []
 only false x = []
 
-abbrev pub is_relation : Atom → Bool
-is_relation (Rel r args) = true
-is_relation (Eq left right) = false
+abbrev pub is_relation_atom : Atom → Bool
+is_relation_atom (Rel r args) = true
+is_relation_atom (Eq left right) = false
 
 -- a later literal of one sign
-abbrev pub factor : Numbered → Numbered → List Candidate
-factor e d = only (nat_lt e.0 d.0 && beq e.1.positive d.1.positive) (Factor e.0 d.0)
+abbrev pub factor_candidates : Numbered → Numbered → List Candidate
+factor_candidates e d = only (nat_lt e.0 d.0 && beq e.1.positive d.1.positive) (Factor e.0 d.0)
 
 abbrev pub factors_at : List Numbered → Numbered → List Candidate
-factors_at all e = flat_map (factor e) all
+factors_at all e = flat_map (factor_candidates e) all
 
 abbrev pub factors : List Numbered → List Numbered → List Candidate
 factors all es = flat_map (factors_at all) es
 
 -- a negative equation
-abbrev pub reflex : Numbered → List Candidate
-reflex e = only (not e.1.positive && not (is_relation e.1.atom)) (Reflex e.0)
+abbrev pub reflex_candidates : Numbered → List Candidate
+reflex_candidates e = only (not e.1.positive && not (is_relation_atom e.1.atom)) (Reflex e.0)
 
 abbrev pub reflexes : List Numbered → List Candidate
-reflexes es = flat_map reflex es
+reflexes es = flat_map reflex_candidates es
 
 -- relations of opposite signs
-abbrev pub resolve : Numbered → Numbered → List Candidate
-resolve e d = only (not (beq e.1.positive d.1.positive) && is_relation e.1.atom && is_relation d.1.atom) (Resolve e.0 d.0)
+abbrev pub resolve_candidates : Numbered → Numbered → List Candidate
+resolve_candidates e d = only (not (beq e.1.positive d.1.positive) && is_relation_atom e.1.atom && is_relation_atom d.1.atom) (Resolve e.0 d.0)
 
 abbrev pub resolves_at : List Numbered → Numbered → List Candidate
-resolves_at ds e = flat_map (resolve e) ds
+resolves_at ds e = flat_map (resolve_candidates e) ds
 
 abbrev pub resolves : List Numbered → List Numbered → List Candidate
 resolves es ds = flat_map (resolves_at ds) es
@@ -78,8 +78,8 @@ sides_of sig (Rel r args) = []
 sides_of sig (Eq left right) = only (is_source sig left right) Left ++ only (is_source sig right left) Right
 
 -- the sides of a positive equation from which a para goes
-abbrev pub sides : Signature → Literal → List Side
-sides sig l = if l.positive then sides_of sig l.atom else []
+abbrev pub para_sides : Signature → Literal → List Side
+para_sides sig l = if l.positive then sides_of sig l.atom else []
 
 abbrev pub paras_into : Way → ℕ → Side → Numbered → List Candidate
 paras_into way j side e = map (Para way j side e.0) (places_of_atom e.1.atom)
@@ -88,7 +88,7 @@ abbrev pub paras_side : Way → List Numbered → ℕ → Side → List Candidat
 paras_side way es j side = flat_map (paras_into way j side) es
 
 abbrev pub paras_at : Signature → Way → List Numbered → Numbered → List Candidate
-paras_at sig way es d = flat_map (paras_side way es d.0) (sides sig d.1)
+paras_at sig way es d = flat_map (paras_side way es d.0) (para_sides sig d.1)
 
 -- from the equations ds into the literals es
 abbrev pub paras : Signature → Way → List Numbered → List Numbered → List Candidate
@@ -98,12 +98,12 @@ abbrev pub eligible_in : Source → List Numbered
 eligible_in p = eligible p.axiom_row p.clause.literals
 
 -- of g alone: by (i, j), then by i
-unfoldable pub alone : Source → List Candidate
-alone g = factors (with_numbers 1 g.clause.literals) (eligible_in g) ++ reflexes (eligible_in g)
+unfoldable pub candidates_alone : Source → List Candidate
+candidates_alone g = factors (with_numbers 1 g.clause.literals) (eligible_in g) ++ reflexes (eligible_in g)
 
 -- of g and p: by (i, j); then by (j, side, i, path) from p into g; then, if p isn't g, from g into p
-unfoldable pub between : Signature → Source → Source → List Candidate
-between sig g p =
+unfoldable pub candidates_between : Signature → Source → Source → List Candidate
+candidates_between sig g p =
     resolves (eligible_in g) (eligible_in p)
     ++ paras sig Inward (eligible_in p) (eligible_in g)
     ++ (if p.number == g.number then [] else paras sig Outward (eligible_in g) (eligible_in p))

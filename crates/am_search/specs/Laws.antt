@@ -4,7 +4,7 @@ use Rattle.std.specs.List.{filter}
 use Rattle.am_clause.specs.Size.{clause_weight}
 use Rattle.am_clause.specs.declared.row.Row.{Row}
 use Rattle.am_search.specs.Members.{row_at, Member, is_waiting, numbered_rows}
-use Rattle.am_search.specs.Plain.{Pick, History, Plain, Picked, Event, Choose, rest, Then, Infer, Start, judged, Follows, Judged, fate_of, rows, choices, entries, wait_list}
+use Rattle.am_search.specs.Plain.{Pick, History, Plain, Picked, Event, Choose, rest, Then, Infer, Start, judged, EachIsDue, Judged, fate_of, rows, choices, entries, wait_list}
 use Rattle.am_search.specs.Rules.{Rules, rules_of}
 use Rattle.am_agenda.specs.declared.wait_row.WaitRow.{WaitRow}
 use Rattle.am_search.specs.declared.fate.End.{End}
@@ -45,7 +45,7 @@ made_of_turn c start (Then h (Infer row)) = made_then (judged c start h).stage (
 
 -- a turn is made in order
 abbrev pub TurnInOrder : Type 0
-TurnInOrder = (c : Rules) (start : List Row) (h : History) → Follows c start h → made_of_turn c start h ++ rest c start h ≡ whole_turn c start h
+TurnInOrder = (c : Rules) (start : List Row) (h : History) → EachIsDue c start h → made_of_turn c start h ++ rest c start h ≡ whole_turn c start h
 
 -- the fate of an inferred row: that of a prepared row, or Last for a close row
 abbrev pub fate_then : Rules → List Row → List ℕ → ℕ → Row → Stage → Judged → Fate
@@ -62,7 +62,7 @@ entries_made c start (Then h (Infer row)) = entries_made c start h ++ (record { 
 
 -- the entries that a search answers are these
 abbrev pub EntriesLaw : Type 0
-EntriesLaw = (c : Rules) (start : List Row) (h : History) → c.starting ≡ length start → Follows c start h → entries c start h ≡ entries_made c start h
+EntriesLaw = (c : Rules) (start : List Row) (h : History) → c.starting ≡ length start → EachIsDue c start h → entries c start h ≡ entries_made c start h
 
 -- the row that got its fate last is Last
 pub record EndsWithLast (rs : List Row) (fates : List Prepared) : Type 0 where

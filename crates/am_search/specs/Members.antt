@@ -42,8 +42,8 @@ processed axioms rows choices = filter (is_processed axioms choices) (numbered_r
 abbrev pub is_standing : ℕ → List Prepared → Member → Bool
 is_standing axioms fates m = nat_le m.number axioms || was_kept fates m.number
 
-abbrev pub kept : ℕ → List Row → List Prepared → List Member
-kept axioms rows fates = filter (is_standing axioms fates) (numbered_rows 1 rows)
+abbrev pub kept_rows : ℕ → List Row → List Prepared → List Member
+kept_rows axioms rows fates = filter (is_standing axioms fates) (numbered_rows 1 rows)
 
 -- waiting are the kept rows that weren't chosen
 abbrev pub is_waiting : List Prepared → List ℕ → Member → Bool

@@ -1,7 +1,7 @@
 -- What a search answers, and what its state stands for.
 use Rattle.std.specs.Prelude.{List, [], ◌∷◌, ℕ, ◌≡◌, ◌≤◌, ◌++◌}
 use Rattle.am_clause.specs.declared.row.Row.{Row}
-use Rattle.am_search.specs.Plain.{Due, Infers, Chooses, Ends, Reading, after, Infer, due_of, Pick, History, Plain, Picked, rows, entries, choices, read, Follows, inferences, lists_shown, judged}
+use Rattle.am_search.specs.Plain.{Due, Infers, Chooses, Ends, Reading, after, Infer, due_of, Pick, History, Plain, Picked, rows, entries, choices, reading_at, EachIsDue, inferences, lists_shown, judged}
 use Rattle.am_search.specs.Rules.{Rules}
 use Rattle.am_agenda.specs.declared.wait_row.WaitRow.{WaitRow}
 use Rattle.am_search.specs.declared.fate.End.{End}
@@ -11,10 +11,10 @@ use Rattle.am_search.specs.declared.fate.Prepared.{Prepared}
 use Rattle.am_search.specs.declared.fate.Kind.TheVariants.{Inferring, Choosing, Ending}
 
 -- the kind of what is due
-abbrev pub kind_of : Due → Kind
-kind_of (Infers row) = Inferring
-kind_of Chooses = Choosing
-kind_of (Ends end) = Ending end
+abbrev pub due_kind : Due → Kind
+due_kind (Infers row) = Inferring
+due_kind Chooses = Choosing
+due_kind (Ends end) = Ending end
 
 -- what the inference that is due leads to
 abbrev pub advance_by : Rules → Reading → Due → Reading
@@ -44,10 +44,10 @@ pub record Outcomes (c : Rules) (start : List Row) (limit : ℕ) (pick : Pick) (
   pub last_is : last_number (judged c start history).fates ≡ last
 
 -- a reading stands for a history; a chooser that picked by first at its first choice picks by now at the next
-pub record Stands (c : Rules) (start : List Row) (limit : ℕ) (first : Pick) (v : Reading) (made : ℕ) (now : Pick) : Type 0 where
+pub record StandsFor (c : Rules) (start : List Row) (limit : ℕ) (first : Pick) (v : Reading) (made : ℕ) (now : Pick) : Type 0 where
   pub history : History
-  pub reads : read c start history ≡ v
-  pub follows : Follows c start history
+  pub reads : reading_at c start history ≡ v
+  pub follows : EachIsDue c start history
   pub picked : Picked first c start history
   pub counts : inferences history ≡ made
   pub few : made ≤ limit

@@ -2,7 +2,7 @@
 use Rattle.std.specs.Prelude.{ℕ, List, [], ◌++◌, ◌∷◌, ◌+◌, Option, Some, None, Bool, true, false, ◌-◌, zero, suc, length, ◌≡◌, nat_lt, ◌≤◌, option_map, slice_get, if◌then◌else◌}
 use Rattle.std.specs.List.{filter_map, filter}
 use Rattle.am_clause.specs.declared.row.Row.{Row}
-use Rattle.am_search.specs.Members.{kept, processed, row_at, Member, waiting}
+use Rattle.am_search.specs.Members.{kept_rows, processed, row_at, Member, waiting}
 use Rattle.am_search.specs.Rules.{Rules}
 use Rattle.am_agenda.specs.declared.wait_row.WaitRow.{WaitRow}
 use Rattle.am_search.specs.declared.fate.End.{End}
@@ -62,7 +62,7 @@ dropped_or c n row None = last_or c n row (c.is_last row)
 
 abbrev pub rewritten_or : Rules → List Row → List Prepared → ℕ → Row → Option Row → Fate × Stage
 rewritten_or c rs fates n row (Some made) = (Rewritten, Makes made)
-rewritten_or c rs fates n row None = dropped_or c n row (c.reason (kept c.axioms rs fates) row)
+rewritten_or c rs fates n row None = dropped_or c n row (c.reason (kept_rows c.axioms rs fates) row)
 
 abbrev pub big_or : Rules → List Row → List ℕ → List Prepared → ℕ → Row → Option Reason → Fate × Stage
 big_or c rs ns fates n row (Some reason) = (Dropped reason, Quiet)
@@ -91,23 +91,23 @@ abbrev pub next_start : Rules → ℕ → ℕ
 next_start c left = (c.starting - left) + 1
 
 -- it is prepared, which leaves so many
-abbrev pub started : Rules → List Row → List ℕ → ℕ → Judged → Judged
-started c rs ns left j = prepare c rs ns (next_start c j.left) (row_at rs (next_start c j.left)) (record j { left = left })
+abbrev pub start_prepared : Rules → List Row → List ℕ → ℕ → Judged → Judged
+start_prepared c rs ns left j = prepare c rs ns (next_start c j.left) (row_at rs (next_start c j.left)) (record j { left = left })
 
 -- the goal and then each given are prepared, in order, once all that was prepared before is settled
 abbrev pub begun : Rules → List Row → List ℕ → ℕ → Judged → Judged
 begun c rs ns zero j = j
-begun c rs ns (suc left) j = when_quiet j.stage (begun c rs ns left (started c rs ns left j)) j
+begun c rs ns (suc left) j = when_quiet j.stage (begun c rs ns left (start_prepared c rs ns left j)) j
 
 -- a row is prepared right after it was inferred; a close row isn't prepared, its fate is Last
-abbrev pub joined : Rules → List Row → List ℕ → ℕ → Row → Stage → Judged → Judged
-joined c rs ns n row Quiet j = prepare c rs ns n (Some row) j
-joined c rs ns n row (Makes r) j = prepare c rs ns n (Some row) j
-joined c rs ns n row (Closes r) j = fated n (Last, Ended true) j
-joined c rs ns n row (Ended b) j = j
+abbrev pub row_judged : Rules → List Row → List ℕ → ℕ → Row → Stage → Judged → Judged
+row_judged c rs ns n row Quiet j = prepare c rs ns n (Some row) j
+row_judged c rs ns n row (Makes r) j = prepare c rs ns n (Some row) j
+row_judged c rs ns n row (Closes r) j = fated n (Last, Ended true) j
+row_judged c rs ns n row (Ended b) j = j
 
 abbrev pub settled : Rules → List Row → List ℕ → ℕ → Row → Judged → Judged
-settled c rs ns n row j = let k = joined c rs ns n row j.stage j in begun c rs ns k.left k
+settled c rs ns n row j = let k = row_judged c rs ns n row j.stage j in begun c rs ns k.left k
 
 -- before anything is prepared
 abbrev pub at_first : Rules → Judged
@@ -147,8 +147,9 @@ pub record Reading : Type 0 where
   pub judged : Judged
   pub rest : List Row
 
-abbrev pub read : Rules → List Row → History → Reading
-read c start h = record { rows = rows start h; choices = choices h; judged = judged c start h; rest = rest c start h }
+abbrev pub reading_at : Rules → List Row → History → Reading
+reading_at c start h =
+    record { rows = rows start h; choices = choices h; judged = judged c start h; rest = rest c start h }
 
 -- the reading after an event
 abbrev pub after : Rules → Event → Reading → Reading
@@ -182,13 +183,13 @@ abbrev pub due_of : Rules → Reading → Due
 due_of c v = due_at (wait_of c v) v.rest v.judged.stage
 
 abbrev pub due : Rules → List Row → History → Due
-due c start h = due_of c (read c start h)
+due c start h = due_of c (reading_at c start h)
 
 -- each event is due after those before it
-abbrev pub Follows : Rules → List Row → History → Type 0
-Follows c start Start = Unit {0}
-Follows c start (Then h (Infer row)) = (due c start h ≡ Infers row) × Follows c start h
-Follows c start (Then h (Choose n)) = (due c start h ≡ Chooses) × Follows c start h
+abbrev pub EachIsDue : Rules → List Row → History → Type 0
+EachIsDue c start Start = Unit {0}
+EachIsDue c start (Then h (Infer row)) = (due c start h ≡ Infers row) × EachIsDue c start h
+EachIsDue c start (Then h (Choose n)) = (due c start h ≡ Chooses) × EachIsDue c start h
 
 abbrev pub end_by : ℕ → ℕ → Due → Option End
 end_by limit made (Infers row) = if nat_lt made limit then None else Some Spent
@@ -196,7 +197,7 @@ end_by limit made Chooses = None
 end_by limit made (Ends end) = Some end
 
 pub record Plain (c : Rules) (start : List Row) (limit : ℕ) (h : History) (end : End) : Type 0 where
-  pub follows : Follows c start h
+  pub follows : EachIsDue c start h
   pub few : inferences h ≤ limit
   pub ends : end_by limit (inferences h) (due c start h) ≡ Some end
 
@@ -205,7 +206,7 @@ abbrev pub Pick : Type 0
 Pick = List (List WaitRow) → List WaitRow → ℕ
 
 abbrev pub wait_list : Rules → List Row → History → List WaitRow
-wait_list c start h = wait_of c (read c start h)
+wait_list c start h = wait_of c (reading_at c start h)
 
 -- the waiting lists of the choices, in order
 abbrev pub lists_shown : Rules → List Row → History → List (List WaitRow)

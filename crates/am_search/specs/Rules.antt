@@ -5,11 +5,12 @@ use Rattle.am_clause.specs.Variables.{variables}
 use Rattle.am_clause.specs.declared.clause.Clause.{Clause}
 use Rattle.am_clause.specs.declared.row.Row.{Row}
 use Rattle.am_clause.specs.declared.row.Rule.{Rule}
-use Rattle.am_rules.specs.Conclusions.{closed}
+use Rattle.am_rules.specs.Conclusions.{closed_off}
+use Rattle.am_rules.specs.Inference.{row_of}
 use Rattle.am_search.specs.Members.{Member, source_of, sourced, is_empty, clause_rows}
 use Rattle.am_simplify.specs.Reasons.{too_big, reason}
 use Rattle.am_simplify.specs.NormalStep.{normal_step}
-use Rattle.am_search.specs.Turn.{turn, row_of}
+use Rattle.am_search.specs.Turn.{turn}
 use Rattle.am_simplify.specs.declared.reason.Reason.{Reason}
 use Rattle.am_simplify.specs.declared.step.RewriteMade.{RewriteMade}
 use Rattle.am_simplify.specs.declared.step.StepRule.{StepRule}
@@ -36,7 +37,7 @@ abbrev pub ends : Clause → Bool
 ends c = is_empty c.literals && is_empty (variables c)
 
 abbrev pub closes : Signature → List SortId → ℕ → Clause → Option Row
-closes sig ins n c = if is_empty c.literals && is_some c.answer then option_map (row_of (R.Close n)) (closed sig ins c) else None
+closes sig ins n c = if is_empty c.literals && is_some c.answer then option_map (row_of (R.Close n)) (closed_off sig ins c) else None
 
 -- the rule of the normal step of the row of a number
 abbrev pub step_rule : ℕ → StepRule → Rule

@@ -2,7 +2,7 @@
 use Rattle.std.specs.Prelude.{◌≡◌, ◌≤◌, ◌<◌, ℕ, List, length}
 use Rattle.am_clause.specs.Ancestors.{AreAncestors}
 use Rattle.am_clause.specs.declared.row.Row.{Row}
-use Rattle.am_diagram.specs.Listed.{sorts_in}
+use Rattle.am_diagram.specs.Listed.{entry_sorts}
 use Rattle.am_diagram.specs.declared.diagram.Diagram.{Diagram}
 use Rattle.am_search.specs.Laws.{EndsWithLast}
 use Rattle.am_search.specs.Plain.{History, Pick, Picked, Plain, choices, entries, judged, rows}
@@ -19,7 +19,7 @@ use Rattle.am_theory.specs.declared.theory.Theory.{Theory}
 
 -- the calculus of a theory and a diagram, with the greatest weight
 abbrev pub rules_for : Theory → Diagram → ℕ → Rules
-rules_for t d weight = rules_of t.sig (sorts_in d.inputs) weight (length (theory_rows t)) (length (starting_rows t d))
+rules_for t d weight = rules_of t.sig (entry_sorts d.inputs) weight (length (theory_rows t)) (length (starting_rows t d))
 
 -- ---- the parts of an outcome
 

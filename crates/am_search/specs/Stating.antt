@@ -14,8 +14,8 @@ judged_in s = record { fates = s.fates; left = s.left; stage = s.stage }
 abbrev pub rest_in : Setting → State → List Row
 rest_in t s = rest_of t.ctx.sig.now t.ctx.ins.now t.axioms s.rows s.ahead
 
-abbrev pub reading : Setting → State → Reading
-reading t s = record { rows = s.rows; choices = s.choices; judged = judged_in s; rest = rest_in t s }
+abbrev pub as_read : Setting → State → Reading
+as_read t s = record { rows = s.rows; choices = s.choices; judged = judged_in s; rest = rest_in t s }
 
 -- the turn, the axiom rows and the choices name no row that isn't there, and the units are those of the processed rows
 pub record Tied (t : Setting) (s : State) : Type 0 where

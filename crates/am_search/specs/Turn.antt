@@ -6,7 +6,8 @@ use Rattle.am_clause.specs.declared.row.Made.{Made}
 use Rattle.am_clause.specs.declared.row.Row.{Row}
 use Rattle.am_clause.specs.declared.row.Rule.{Rule}
 use Rattle.am_rules.specs.Conclusions.{factored, resolved, paramodulated, reflexed}
-use Rattle.am_search.specs.Candidates.{between, alone}
+use Rattle.am_rules.specs.Inference.{row_of}
+use Rattle.am_search.specs.Candidates.{candidates_between, candidates_alone}
 use Rattle.am_search.specs.Sources.{Source}
 use Rattle.am_search.specs.declared.candidate.Candidate.{Candidate}
 use Rattle.am_search.specs.declared.candidate.Candidate.TheVariants.{Factor, Reflex, Resolve, Para}
@@ -31,19 +32,16 @@ tried sig ins g p (Resolve i j) = resolved sig ins g i p j
 tried sig ins g p (Para Inward j side i path) = paramodulated sig ins p j side g i path
 tried sig ins g p (Para Outward j side i path) = paramodulated sig ins g j side p i path
 
-abbrev pub row_of : Rule → Made → Row
-row_of rule made = record { rule = rule; with = made.with; clause = made.clause }
-
 -- the row that an inference makes, if it succeeds
-unfoldable pub made_by : Signature → List SortId → Source → Source → Candidate → Option Row
-made_by sig ins g p c = option_map (row_of (rule_of g.number p.number c)) (tried sig ins g.clause p.clause c)
+unfoldable pub row_made : Signature → List SortId → Source → Source → Candidate → Option Row
+row_made sig ins g p c = option_map (row_of (rule_of g.number p.number c)) (tried sig ins g.clause p.clause c)
 
 abbrev pub all_made : Signature → List SortId → Source → Source → List Candidate → List Row
-all_made sig ins g p cs = filter_map (made_by sig ins g p) cs
+all_made sig ins g p cs = filter_map (row_made sig ins g p) cs
 
 abbrev pub made_with : Signature → List SortId → Source → Source → List Row
-made_with sig ins g p = all_made sig ins g p (between sig g p)
+made_with sig ins g p = all_made sig ins g p (candidates_between sig g p)
 
 -- g alone, and then with each of the processed rows, g among them
 unfoldable pub turn : Signature → List SortId → Source → List Source → List Row
-turn sig ins g ps = all_made sig ins g g (alone g) ++ flat_map (made_with sig ins g) ps
+turn sig ins g ps = all_made sig ins g g (candidates_alone g) ++ flat_map (made_with sig ins g) ps

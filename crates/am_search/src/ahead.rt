@@ -1,6 +1,6 @@
 ghost use Rattle.std.specs.Prelude.{◌≡◌, List, [], IfOk, length, OnOk, not, MatchOption, ◌∷◌, map};
 ghost use Rattle.am_clause.specs.declared.row.Row.{Row};
-ghost use Rattle.am_search.specs.Left.{rest_of, sources};
+ghost use Rattle.am_search.specs.Left.{rest_of, sources_at};
 ghost use Rattle.am_search.specs.Members.{processed, row_at, source_of, is_empty};
 ghost use Rattle.am_search.specs.Plain.{turn_at};
 ghost use Rattle.am_search.specs.Rules.{rules_in};
@@ -44,7 +44,9 @@ impl Ahead {
         number: u32,
     ) -> Result<Ahead, NoMemory>
         ensures count { IfOk result (λ a. a.turn.count ≡ length rows.now) }
-        ensures rest { IfOk result (λ a. let s = setting.now in rest_of s.ctx.sig.now s.ctx.ins.now s.axioms rows.now a ≡ turn_at (rules_in s) (processed (rules_in s).axioms rows.now choices.now) number (row_at rows.now number)) }
+        ensures rest { IfOk result (λ a. let s = setting.now in rest_of s.ctx.sig.now s.ctx.ins.now s.axioms rows.now a
+            ≡ turn_at (rules_in s) (processed (rules_in s).axioms rows.now choices.now) number
+            (row_at rows.now number)) }
     {
         let partners = processed_rows(alloc, setting, rows, choices)?;
         let turn = Turn::new(alloc, setting, rows, number, partners)?;
@@ -54,8 +56,10 @@ impl Ahead {
     /// Whether a row is left: the next one is made, unless that was done.
     pub fn look(&mut self, alloc: Global, setting: &Setting, rows: &[Row]) -> Result<bool, NoMemory>
         ensures count { OnOk result (self.new.turn.count ≡ self.old.turn.count) }
-        ensures rest { OnOk result (let s = setting.now in rest_of s.ctx.sig.now s.ctx.ins.now s.axioms rows.now self.new ≡ rest_of s.ctx.sig.now s.ctx.ins.now s.axioms rows.now self.old) }
-        ensures left { IfOk result (λ b. let s = setting.now in is_empty (rest_of s.ctx.sig.now s.ctx.ins.now s.axioms rows.now self.old) ≡ not b) }
+        ensures rest { OnOk result (let s = setting.now in rest_of s.ctx.sig.now s.ctx.ins.now s.axioms rows.now
+            self.new ≡ rest_of s.ctx.sig.now s.ctx.ins.now s.axioms rows.now self.old) }
+        ensures left { IfOk result (λ b. let s = setting.now in is_empty
+            (rest_of s.ctx.sig.now s.ctx.ins.now s.axioms rows.now self.old) ≡ not b) }
     {
         if self.row.is_some() {
             return Ok(true);
@@ -77,7 +81,11 @@ impl Ahead {
         rows: &[Row],
     ) -> Result<Option<Row>, NoMemory>
         ensures count { OnOk result (self.new.turn.count ≡ self.old.turn.count) }
-        ensures next { IfOk result (λ o. let s = setting.now in MatchOption o ((rest_of s.ctx.sig.now s.ctx.ins.now s.axioms rows.now self.old ≡ []) × (rest_of s.ctx.sig.now s.ctx.ins.now s.axioms rows.now self.new ≡ [])) (λ row. rest_of s.ctx.sig.now s.ctx.ins.now s.axioms rows.now self.old ≡ row ∷ rest_of s.ctx.sig.now s.ctx.ins.now s.axioms rows.now self.new)) }
+        ensures next { IfOk result (λ o. let s = setting.now in MatchOption o
+            ((rest_of s.ctx.sig.now s.ctx.ins.now s.axioms rows.now self.old ≡ [])
+            × (rest_of s.ctx.sig.now s.ctx.ins.now s.axioms rows.now self.new ≡ [])) (λ row.
+            rest_of s.ctx.sig.now s.ctx.ins.now s.axioms rows.now self.old ≡ row
+            ∷ rest_of s.ctx.sig.now s.ctx.ins.now s.axioms rows.now self.new)) }
     {
         match self.row.take() {
             Some(row) => Ok(Some(row)),
@@ -94,7 +102,8 @@ fn processed_rows(
     rows: &[Row],
     choices: &Choices,
 ) -> Result<VecDeque<u32>, NoMemory>
-    ensures { IfOk result (λ ns. sources setting.now.axioms rows.now ns.items ≡ map (source_of setting.now.axioms) (processed setting.now.axioms rows.now choices.now)) }
+    ensures { IfOk result (λ ns. sources_at setting.now.axioms rows.now ns.items ≡ map (source_of setting.now.axioms)
+        (processed setting.now.axioms rows.now choices.now)) }
 {
     let mut found = VecDeque::new(alloc);
     for i in 0..rows.len() {

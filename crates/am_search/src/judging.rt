@@ -1,5 +1,5 @@
 ghost use Rattle.std.specs.Prelude.{IfOk, ◌≡◌};
-ghost use Rattle.am_search.specs.Members.{processed, kept};
+ghost use Rattle.am_search.specs.Members.{processed, kept_rows};
 ghost use Rattle.am_search.specs.Plain.{fate_of};
 ghost use Rattle.am_search.specs.Rules.{rules_in, step_row};
 ghost use Rattle.am_search.specs.Stating.{Tied};
@@ -24,7 +24,8 @@ pub fn judge(
     row: &Row,
 ) -> Result<(Fate, Stage), NoMemory>
     requires tied { Tied setting.now state.now }
-    ensures { IfOk result (λ f. f ≡ fate_of (rules_in setting.now) state.now.rows state.now.choices state.now.fates number row.now) }
+    ensures { IfOk result (λ f. f ≡ fate_of
+        (rules_in setting.now) state.now.rows state.now.choices state.now.fates number row.now) }
 {
     if let Some(reason) = size_reason(setting, row) {
         return Ok((Fate::Dropped(reason), Stage::Quiet));
@@ -60,7 +61,8 @@ fn step_of(
     row: &Row,
 ) -> Result<Option<Row>, NoMemory>
     requires tied { Tied setting.now state.now }
-    ensures { IfOk result (λ o. o ≡ (rules_in setting.now).step_of (processed (rules_in setting.now).axioms state.now.rows state.now.choices) number row.now) }
+    ensures { IfOk result (λ o. o ≡ (rules_in setting.now).step_of
+        (processed (rules_in setting.now).axioms state.now.rows state.now.choices) number row.now) }
 {
     match state.rewriter.step(alloc, &setting.ctx, &row.clause)? {
         Some(step) => Ok(Some(row_of_step(number, step))),
@@ -95,7 +97,8 @@ fn reason_of(
     state: &State,
     row: &Row,
 ) -> Result<Option<Reason>, NoMemory>
-    ensures { IfOk result (λ r. r ≡ (rules_in setting.now).reason (kept (rules_in setting.now).axioms state.now.rows state.now.fates) row.now) }
+    ensures { IfOk result (λ r. r ≡ (rules_in setting.now).reason
+        (kept_rows (rules_in setting.now).axioms state.now.rows state.now.fates) row.now) }
 {
     let own = own_reason(
         alloc,

@@ -1,7 +1,7 @@
 //! The inferences of a turn that are tried, listed in order.
 ghost use Rattle.std.specs.Prelude.{IfOk, OnOk, ◌≡◌, ◌++◌, find, map};
 ghost use Rattle.std.specs.List.{flat_map};
-ghost use Rattle.am_search.specs.Candidates.{alone as is_alone, between as is_between, eligible_in, factors as all_factors, factors_at, is_negative, is_relation as is_no_equation, is_source as may_go_from, paras as all_paras, paras_at, paras_into, paras_side, reflexes as all_reflexes, resolves as all_resolves, resolves_at, sides as sides_from, that_or_all};
+ghost use Rattle.am_search.specs.Candidates.{candidates_alone as is_alone, candidates_between as is_between, eligible_in, factors as all_factors, factors_at, is_negative, is_relation_atom as is_no_equation, is_source as may_go_from, paras as all_paras, paras_at, paras_into, paras_side, reflexes as all_reflexes, resolves as all_resolves, resolves_at, para_sides as sides_from, that_or_all};
 ghost use Rattle.am_simplify.specs.Numbering.{with_numbers};
 ghost use Rattle.am_term.specs.Variables.{is_variable as is_a_variable};
 
@@ -24,7 +24,7 @@ struct Part<'a> {
 }
 
 /// What a row is tried with alone: factors, then reflexes.
-#[tactic(auto, unfolding(crate::specs::Candidates::alone))]
+#[tactic(auto, unfolding(crate::specs::Candidates::candidates_alone))]
 pub fn alone(alloc: Global, g: &Source) -> Result<VecDeque<Candidate>, NoMemory>
     ensures { IfOk result (λ cs. cs.items ≡ is_alone g.now) }
 {
@@ -37,7 +37,7 @@ pub fn alone(alloc: Global, g: &Source) -> Result<VecDeque<Candidate>, NoMemory>
 }
 
 /// What a row is tried with a partner: resolves, then paras from the partner, then, to another row, paras into it.
-#[tactic(auto, unfolding(crate::specs::Candidates::between))]
+#[tactic(auto, unfolding(crate::specs::Candidates::candidates_between))]
 pub fn between(
     alloc: Global,
     sig: &Signature,
@@ -75,7 +75,8 @@ fn eligible<'a>(p: &Source<'a>) -> Result<Part<'a>, NoMemory>
 }
 
 fn first_negative(literals: &[Literal]) -> Result<Part, NoMemory>
-    ensures { IfOk result (λ part. with_numbers part.first part.literals.now ≡ that_or_all (find is_negative (with_numbers 1 literals.now)) (with_numbers 1 literals.now)) }
+    ensures { IfOk result (λ part. with_numbers part.first part.literals.now ≡ that_or_all
+        (find is_negative (with_numbers 1 literals.now)) (with_numbers 1 literals.now)) }
 {
     let mut rest = literals;
     let mut n: u32 = 1;
@@ -107,7 +108,8 @@ fn add_factors(
     literals: &[Literal],
     all: &[Literal],
 ) -> Result<(), NoMemory>
-    ensures { OnOk result (out.new.items ≡ out.old.items ++ all_factors (with_numbers 1 all.now) (with_numbers first literals.now)) }
+    ensures { OnOk result (out.new.items ≡ out.old.items ++ all_factors (with_numbers 1 all.now)
+        (with_numbers first literals.now)) }
 {
     let mut rest = literals;
     let mut i = first;
@@ -165,7 +167,8 @@ fn add_resolves(
     start: u32,
     others: &[Literal],
 ) -> Result<(), NoMemory>
-    ensures { OnOk result (out.new.items ≡ out.old.items ++ all_resolves (with_numbers first literals.now) (with_numbers start others.now)) }
+    ensures { OnOk result (out.new.items ≡ out.old.items ++ all_resolves (with_numbers first literals.now)
+        (with_numbers start others.now)) }
 {
     let mut rest = literals;
     let mut i = first;
@@ -184,7 +187,8 @@ fn add_resolves_at(
     start: u32,
     others: &[Literal],
 ) -> Result<(), NoMemory>
-    ensures { OnOk result (out.new.items ≡ out.old.items ++ resolves_at (with_numbers start others.now) (i, literal.now)) }
+    ensures { OnOk result (out.new.items ≡ out.old.items ++ resolves_at (with_numbers start others.now)
+        (i, literal.now)) }
 {
     let mut rest = others;
     let mut j = start;
@@ -248,7 +252,9 @@ fn add_paras(
     from: Part,
     into: Part,
 ) -> Result<(), NoMemory>
-    ensures { OnOk result (out.new.items ≡ out.old.items ++ all_paras sig.now way (with_numbers from.entry.first from.entry.literals.now) (with_numbers into.entry.first into.entry.literals.now)) }
+    ensures { OnOk result (out.new.items ≡ out.old.items ++ all_paras sig.now way
+        (with_numbers from.entry.first from.entry.literals.now)
+        (with_numbers into.entry.first into.entry.literals.now)) }
 {
     let mut rest = from.literals;
     let mut j = from.first;
@@ -278,7 +284,8 @@ fn add_paras_at(
     first: u32,
     literals: &[Literal],
 ) -> Result<(), NoMemory>
-    ensures { OnOk result (out.new.items ≡ out.old.items ++ flat_map (paras_side way (with_numbers first literals.now) j) sides.now) }
+    ensures { OnOk result (out.new.items ≡ out.old.items ++ flat_map
+        (paras_side way (with_numbers first literals.now) j) sides.now) }
 {
     let mut rest = sides;
     while let [side, behind @ ..] = rest {

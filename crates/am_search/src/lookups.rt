@@ -1,6 +1,6 @@
 //! Rows that are picked out of all by their flags.
 ghost use Rattle.std.specs.Prelude.{IfOk, ◌≡◌, map};
-ghost use Rattle.am_search.specs.Members.{clause_rows, kept};
+ghost use Rattle.am_search.specs.Members.{clause_rows, kept_rows};
 ghost use Rattle.am_search.specs.Weights.{row_features};
 ghost use Rattle.am_simplify.specs.Features.{clause_features};
 ghost use Rattle.am_simplify.specs.Reasons.{subsumer};
@@ -20,7 +20,8 @@ pub fn first_subsumer(
     fates: &Fates,
     clause: &Clause,
 ) -> Result<Option<u32>, NoMemory>
-    ensures { IfOk result (λ o. let t = setting.now in o ≡ subsumer t.ctx.sig.now t.ctx.ins.now (clause_rows (kept t.axioms rows.now fates.now)) clause.now) }
+    ensures { IfOk result (λ o. let t = setting.now in o ≡ subsumer t.ctx.sig.now t.ctx.ins.now
+        (clause_rows (kept_rows t.axioms rows.now fates.now)) clause.now) }
 {
     first_among(
         setting,
@@ -43,7 +44,8 @@ fn first_among(
 ) -> Result<Option<u32>, NoMemory>
     requires rows { features.now ≡ map row_features rows.now }
     requires own { own ≡ clause_features clause.now }
-    ensures { IfOk result (λ o. let t = setting.now in o ≡ subsumer t.ctx.sig.now t.ctx.ins.now (clause_rows (kept t.axioms rows.now fates.now)) clause.now) }
+    ensures { IfOk result (λ o. let t = setting.now in o ≡ subsumer t.ctx.sig.now t.ctx.ins.now
+        (clause_rows (kept_rows t.axioms rows.now fates.now)) clause.now) }
 {
     let mut number: u32 = 0;
     let mut rest = rows;

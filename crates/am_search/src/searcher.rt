@@ -1,10 +1,10 @@
 ghost use Rattle.std.specs.Prelude.{IfOk, ◌≡◌, ℕ, ◌≤◌, OnOk, List, ◌<◌, ◌∷◌, length};
 ghost use Rattle.am_clause.specs.declared.row.Row.{Row};
-ghost use Rattle.am_search.specs.Outcomes.{kind_of};
+ghost use Rattle.am_search.specs.Outcomes.{due_kind};
 ghost use Rattle.am_search.specs.Plain.{Start, History, due_of, wait_of};
 ghost use Rattle.am_search.specs.Rules.{rules_in};
 ghost use Rattle.am_search.specs.Searching.{StandsAt, task, RunOn, TurnOf};
-ghost use Rattle.am_search.specs.Stating.{Tied, reading};
+ghost use Rattle.am_search.specs.Stating.{Tied, as_read};
 ghost use Rattle.am_agenda.specs.declared.wait_row.WaitRow.{WaitRow};
 
 use crate::asking::ask;
@@ -36,7 +36,8 @@ impl Searcher {
         requires axioms { setting.now.axioms ≤ length rows.items }
         ensures none { IfOk result (λ s. s.made ≡ 0) }
         ensures tied { IfOk result (λ s. Tied setting.now s.state) }
-        ensures reads { IfOk result (λ s. (limit : ℕ) → StandsAt (rules_in setting.now) rows.items limit Start (reading setting.now s.state) s.made) }
+        ensures reads { IfOk result (λ s. (limit : ℕ)
+            → StandsAt (rules_in setting.now) rows.items limit Start (as_read setting.now s.state) s.made) }
     {
         let state = State::new(alloc, setting, rows)?;
         Ok(Searcher { state, made: 0 })
@@ -53,8 +54,12 @@ impl Searcher {
         requires tied { Tied setting.now self.old.state }
         ensures few { OnOk result (self.new.made ≤ budget) }
         ensures tied { OnOk result (Tied setting.now self.new.state) }
-        ensures less { OnOk result (task (rules_in setting.now) budget self.new.made (reading setting.now self.new.state) ≤ task (rules_in setting.now) budget self.old.made (reading setting.now self.old.state)) }
-        ensures goes { IfOk result (λ t. (start : List Row) (h : History) → StandsAt (rules_in setting.now) start budget h (reading setting.now self.old.state) self.old.made → RunOn (rules_in setting.now) start budget h (reading setting.now self.new.state) self.new.made t) }
+        ensures less { OnOk result (task (rules_in setting.now) budget self.new.made
+            (as_read setting.now self.new.state) ≤ task (rules_in setting.now) budget self.old.made
+            (as_read setting.now self.old.state)) }
+        ensures goes { IfOk result (λ t. (start : List Row) (h : History)
+            → StandsAt (rules_in setting.now) start budget h (as_read setting.now self.old.state) self.old.made
+            → RunOn (rules_in setting.now) start budget h (as_read setting.now self.new.state) self.new.made t) }
     {
         'runs: loop {
             let kind = self.state.due(alloc, setting)?;
@@ -84,12 +89,19 @@ impl Searcher {
     ) -> Result<Turned, NoMemory>
         requires few { self.old.made ≤ budget }
         requires tied { Tied setting.now self.old.state }
-        requires waits { kind_of (due_of (rules_in setting.now) (reading setting.now self.old.state)) ≡ Kind.Choosing }
+        requires waits { due_kind (due_of (rules_in setting.now) (as_read setting.now self.old.state)) ≡ Kind.Choosing }
         ensures few { OnOk result (self.new.made ≤ budget) }
         ensures tied { OnOk result (Tied setting.now self.new.state) }
-        ensures less { OnOk result (task (rules_in setting.now) budget self.new.made (reading setting.now self.new.state) < task (rules_in setting.now) budget self.old.made (reading setting.now self.old.state)) }
-        ensures goes { IfOk result (λ t. (start : List Row) (h : History) → StandsAt (rules_in setting.now) start budget h (reading setting.now self.old.state) self.old.made → TurnOf (rules_in setting.now) start budget (pick_after chooser.old) h (reading setting.now self.old.state) (reading setting.now self.new.state) self.new.made t) }
-        ensures after { OnOk result ((past : List (List WaitRow)) (list : List WaitRow) → pick_after chooser.new past list ≡ pick_after chooser.old (wait_of (rules_in setting.now) (reading setting.now self.old.state) ∷ past) list) }
+        ensures less { OnOk result (task (rules_in setting.now) budget self.new.made
+            (as_read setting.now self.new.state) < task (rules_in setting.now) budget self.old.made
+            (as_read setting.now self.old.state)) }
+        ensures goes { IfOk result (λ t. (start : List Row) (h : History)
+            → StandsAt (rules_in setting.now) start budget h (as_read setting.now self.old.state) self.old.made
+            → TurnOf (rules_in setting.now) start budget (pick_after chooser.old) h
+            (as_read setting.now self.old.state) (as_read setting.now self.new.state) self.new.made t) }
+        ensures after { OnOk result ((past : List (List WaitRow)) (list : List WaitRow)
+            → pick_after chooser.new past list ≡ pick_after chooser.old
+            (wait_of (rules_in setting.now) (as_read setting.now self.old.state) ∷ past) list) }
     {
         let waits = self.state.waiting(alloc, setting)?;
         let number = ask(chooser, waits.as_slice());

@@ -66,7 +66,9 @@ pub fn search_for(
     chooser: Box<dyn Chooser>,
 ) -> Result<Ended, NoMemory>
     requires { weight ≤ 1000000 }
-    ensures { IfOk result (λ o. let start = rows_at_first axioms.items goal givens.now in Outcomes (rules_of ctx.entry.sig.now ctx.entry.ins.now weight (length axioms.items) (length start)) start budget (pick_after chooser) o.end o.rows o.entries o.choices o.last) }
+    ensures { IfOk result (λ o. let start = rows_at_first axioms.items goal givens.now in Outcomes
+        (rules_of ctx.entry.sig.now ctx.entry.ins.now weight (length axioms.items) (length start)) start budget
+        (pick_after chooser) o.end o.rows o.entries o.choices o.last) }
 {
     let axiom_rows = count(axioms.len())?;
     let rows = first_rows(alloc, axioms, goal, givens)?;
@@ -89,7 +91,8 @@ pub fn search_rows(
     mut chooser: Box<dyn Chooser>,
 ) -> Result<Ended, NoMemory>
     requires axioms { setting.now.axioms ≤ length rows.items }
-    ensures { IfOk result (λ o. Outcomes (rules_in setting.now) rows.items budget (pick_after chooser) o.end o.rows o.entries o.choices o.last) }
+    ensures { IfOk result (λ o. Outcomes (rules_in setting.now) rows.items budget
+        (pick_after chooser) o.end o.rows o.entries o.choices o.last) }
 {
     let mut searcher = Searcher::new(alloc, setting, rows)?;
     let mut turned = searcher.run_on(alloc, setting, budget)?;

@@ -2,7 +2,7 @@
 ghost use Rattle.std.specs.Prelude.{IfOk, ◌≡◌, ◌≤◌, MatchOption};
 ghost use Rattle.am_clause.specs.Ancestors.{AreAncestors, AreOrdered};
 ghost use Rattle.am_diagram.specs.Facts.{WellFormed as WellDrawn};
-ghost use Rattle.am_diagram.specs.Listed.{sorts_in};
+ghost use Rattle.am_diagram.specs.Listed.{entry_sorts};
 ghost use Rattle.am_search.specs.Outcomes.{Outcomes};
 ghost use Rattle.am_search.specs.Searched.{IsSearched, HasLast, HasLogFrom, choices_in, end_of, entries_in, rules_for};
 ghost use Rattle.am_search.specs.Starting.{starting_rows};
@@ -57,8 +57,10 @@ fn search_with(
 ) -> Result<Ended, NoMemory>
     requires weight { limits.weight ≤ 400 }
     requires diagram { WellDrawn theory.now diagram.now }
-    requires sorts { sorts.now ≡ sorts_in diagram.now.inputs }
-    ensures { IfOk result (λ o. Outcomes (rules_for theory.now diagram.now limits.weight) (starting_rows theory.now diagram.now) limits.budget (pick_after chooser) o.end o.rows o.entries o.choices o.last) }
+    requires sorts { sorts.now ≡ entry_sorts diagram.now.inputs }
+    ensures { IfOk result (λ o. Outcomes (rules_for theory.now diagram.now limits.weight)
+        (starting_rows theory.now diagram.now) limits.budget
+        (pick_after chooser) o.end o.rows o.entries o.choices o.last) }
 {
     let axioms = theory_rows(alloc, theory)?;
     let asked = goal_of(alloc, diagram)?;
@@ -129,7 +131,7 @@ fn log_of(alloc: Global, rows: Items<Row>, last: u32) -> Result<Log, NoMemory>
 }
 
 fn input_sorts(alloc: Global, inputs: &[(Name, SortId)]) -> Result<Items<SortId>, NoMemory>
-    ensures { IfOk result (λ sorts. sorts ≡ sorts_in inputs.now) }
+    ensures { IfOk result (λ sorts. sorts ≡ entry_sorts inputs.now) }
 {
     let mut sorts = Items::new(alloc);
     let mut rest = inputs;

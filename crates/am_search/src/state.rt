@@ -1,9 +1,9 @@
 ghost use Rattle.std.specs.Prelude.{IfOk, ◌≡◌, OnOk, ◌++◌, ◌∷◌, [], length, ◌+◌, Some, true, ◌-◌, ◌≤◌, not, ℕ};
 ghost use Rattle.am_search.specs.Members.{row_at, waiting, is_empty};
-ghost use Rattle.am_search.specs.Outcomes.{kind_of, advanced};
-ghost use Rattle.am_search.specs.Plain.{read, Start, prepare, started, begun, fated, due_of, after, Choose, wait_of, next_start};
+ghost use Rattle.am_search.specs.Outcomes.{due_kind, advanced};
+ghost use Rattle.am_search.specs.Plain.{reading_at, Start, prepare, start_prepared, begun, fated, due_of, after, Choose, wait_of, next_start};
 ghost use Rattle.am_search.specs.Rules.{rules_in};
-ghost use Rattle.am_search.specs.Stating.{Tied, reading, judged_in};
+ghost use Rattle.am_search.specs.Stating.{Tied, as_read, judged_in};
 ghost use Rattle.am_search.specs.Weights.{weighed_from};
 
 use crate::ahead::Ahead;
@@ -39,7 +39,7 @@ impl State {
     pub fn new(alloc: Global, setting: &Setting, rows: Vec<Row>) -> Result<State, NoMemory>
         requires axioms { setting.now.axioms ≤ length rows.items }
         ensures tied { IfOk result (λ s. Tied setting.now s) }
-        ensures reads { IfOk result (λ s. reading setting.now s ≡ read (rules_in setting.now) rows.items Start) }
+        ensures reads { IfOk result (λ s. as_read setting.now s ≡ reading_at (rules_in setting.now) rows.items Start) }
     {
         let rewriter = axiom_units(alloc, setting, rows.as_slice())?;
         let mut state = State {
@@ -59,7 +59,9 @@ impl State {
     fn prepare(&mut self, alloc: Global, setting: &Setting, number: u32) -> Result<(), NoMemory>
         requires tied { Tied setting.now self.old }
         ensures tied { OnOk result (Tied setting.now self.new) }
-        ensures judged { OnOk result (judged_in self.new ≡ prepare (rules_in setting.now) self.old.rows self.old.choices number (row_at self.old.rows number) (judged_in self.old)) }
+        ensures judged { OnOk result (judged_in self.new ≡ prepare
+            (rules_in setting.now) self.old.rows self.old.choices number (row_at self.old.rows number)
+            (judged_in self.old)) }
         ensures rows { OnOk result (self.new.rows ≡ self.old.rows) }
         ensures choices { OnOk result (self.new.choices ≡ self.old.choices) }
         ensures ahead { OnOk result (self.new.ahead ≡ self.old.ahead) }
@@ -77,7 +79,8 @@ impl State {
     fn start(&mut self, alloc: Global, setting: &Setting, left: u32) -> Result<(), NoMemory>
         requires tied { Tied setting.now self.old }
         ensures tied { OnOk result (Tied setting.now self.new) }
-        ensures judged { OnOk result (judged_in self.new ≡ started (rules_in setting.now) self.old.rows self.old.choices left (judged_in self.old)) }
+        ensures judged { OnOk result (judged_in self.new ≡ start_prepared
+            (rules_in setting.now) self.old.rows self.old.choices left (judged_in self.old)) }
         ensures rows { OnOk result (self.new.rows ≡ self.old.rows) }
         ensures choices { OnOk result (self.new.choices ≡ self.old.choices) }
         ensures ahead { OnOk result (self.new.ahead ≡ self.old.ahead) }
@@ -91,7 +94,8 @@ impl State {
     fn begin(&mut self, alloc: Global, setting: &Setting) -> Result<(), NoMemory>
         requires tied { Tied setting.now self.old }
         ensures tied { OnOk result (Tied setting.now self.new) }
-        ensures judged { OnOk result (judged_in self.new ≡ begun (rules_in setting.now) self.old.rows self.old.choices self.old.left (judged_in self.old)) }
+        ensures judged { OnOk result (judged_in self.new ≡ begun
+            (rules_in setting.now) self.old.rows self.old.choices self.old.left (judged_in self.old)) }
         ensures rows { OnOk result (self.new.rows ≡ self.old.rows) }
         ensures choices { OnOk result (self.new.choices ≡ self.old.choices) }
         ensures ahead { OnOk result (self.new.ahead ≡ self.old.ahead) }
@@ -114,7 +118,10 @@ impl State {
     fn join(&mut self, alloc: Global, setting: &Setting, row: Row) -> Result<(), NoMemory>
         requires tied { Tied setting.now self.old }
         ensures tied { OnOk result (Tied setting.now self.new) }
-        ensures judged { OnOk result (let j = prepare (rules_in setting.now) (self.old.rows ++ row ∷ []) self.old.choices (length self.old.rows + 1) (Some row) (judged_in self.old) in judged_in self.new ≡ begun (rules_in setting.now) (self.old.rows ++ row ∷ []) self.old.choices j.left j) }
+        ensures judged { OnOk result (let j = prepare (rules_in setting.now)
+            (self.old.rows ++ row ∷ []) self.old.choices (length self.old.rows + 1) (Some row)
+            (judged_in self.old) in judged_in self.new ≡ begun (rules_in setting.now)
+            (self.old.rows ++ row ∷ []) self.old.choices j.left j) }
         ensures rows { OnOk result (self.new.rows ≡ self.old.rows ++ row ∷ []) }
         ensures choices { OnOk result (self.new.choices ≡ self.old.choices) }
         ensures ahead { OnOk result (self.new.ahead ≡ self.old.ahead) }
@@ -130,7 +137,9 @@ impl State {
     fn finish(&mut self, alloc: Global, setting: &Setting, row: Row) -> Result<(), NoMemory>
         requires tied { Tied setting.now self.old }
         ensures tied { OnOk result (Tied setting.now self.new) }
-        ensures judged { OnOk result (let j = fated (length self.old.rows + 1) (Fate.Last, Stage.Ended true) (judged_in self.old) in judged_in self.new ≡ begun (rules_in setting.now) (self.old.rows ++ row ∷ []) self.old.choices j.left j) }
+        ensures judged { OnOk result (let j = fated (length self.old.rows + 1) (Fate.Last, Stage.Ended true)
+            (judged_in self.old) in judged_in self.new ≡ begun (rules_in setting.now)
+            (self.old.rows ++ row ∷ []) self.old.choices j.left j) }
         ensures rows { OnOk result (self.new.rows ≡ self.old.rows ++ row ∷ []) }
         ensures choices { OnOk result (self.new.choices ≡ self.old.choices) }
         ensures ahead { OnOk result (self.new.ahead ≡ self.old.ahead) }
@@ -145,10 +154,11 @@ impl State {
     /// The inference that is due is made, and what follows from it is prepared.
     #[tactic(auto, using(crate::proofs::Growth::growth))]
     pub fn advance(&mut self, alloc: Global, setting: &Setting) -> Result<(), NoMemory>
-        requires due { kind_of (due_of (rules_in setting.now) (reading setting.now self.old)) ≡ Kind.Inferring }
+        requires due { due_kind (due_of (rules_in setting.now) (as_read setting.now self.old)) ≡ Kind.Inferring }
         requires tied { Tied setting.now self.old }
         ensures tied { OnOk result (Tied setting.now self.new) }
-        ensures reads { OnOk result (reading setting.now self.new ≡ advanced (rules_in setting.now) (reading setting.now self.old)) }
+        ensures reads { OnOk result (as_read setting.now self.new ≡ advanced (rules_in setting.now)
+            (as_read setting.now self.old)) }
     {
         match mem::replace(&mut self.stage, Stage::Quiet) {
             Stage::Quiet => match self.ahead.take(alloc, setting, self.rows.as_slice())? {
@@ -167,7 +177,8 @@ impl State {
         requires tied { Tied setting.now self.old }
         requires there { number ≤ length self.old.rows }
         ensures tied { OnOk result (Tied setting.now self.new) }
-        ensures reads { OnOk result (reading setting.now self.new ≡ after (rules_in setting.now) (Choose number) (reading setting.now self.old)) }
+        ensures reads { OnOk result (as_read setting.now self.new ≡ after (rules_in setting.now) (Choose number)
+            (as_read setting.now self.old)) }
     {
         let rows = self.rows.as_slice();
         take_in(
@@ -186,7 +197,7 @@ impl State {
     /// The rows that wait.
     #[tactic(auto, using(crate::specs::Rules::rules_laws))]
     pub fn waiting(&self, alloc: Global, setting: &Setting) -> Result<Vec<WaitRow>, NoMemory>
-        ensures { IfOk result (λ w. w.items ≡ wait_of (rules_in setting.now) (reading setting.now self.now)) }
+        ensures { IfOk result (λ w. w.items ≡ wait_of (rules_in setting.now) (as_read setting.now self.now)) }
     {
         waiting_rows(
             alloc,
@@ -200,7 +211,7 @@ impl State {
     // Whether some row waits.
     #[tactic(auto, using(crate::specs::Rules::rules_laws))]
     fn some_wait(&self, setting: &Setting) -> Result<bool, NoMemory>
-        ensures { IfOk result (λ b. is_empty (wait_of (rules_in setting.now) (reading setting.now self.now)) ≡ not b) }
+        ensures { IfOk result (λ b. is_empty (wait_of (rules_in setting.now) (as_read setting.now self.now)) ≡ not b) }
     {
         let _most = setting.weight;
         any_waits(self.rows.as_slice(), &self.fates, &self.choices)
@@ -211,8 +222,8 @@ impl State {
     pub fn due(&mut self, alloc: Global, setting: &Setting) -> Result<Kind, NoMemory>
         requires tied { Tied setting.now self.old }
         ensures tied { OnOk result (Tied setting.now self.new) }
-        ensures same { OnOk result (reading setting.now self.new ≡ reading setting.now self.old) }
-        ensures kind { IfOk result (λ k. k ≡ kind_of (due_of (rules_in setting.now) (reading setting.now self.old))) }
+        ensures same { OnOk result (as_read setting.now self.new ≡ as_read setting.now self.old) }
+        ensures kind { IfOk result (λ k. k ≡ due_kind (due_of (rules_in setting.now) (as_read setting.now self.old))) }
     {
         match &self.stage {
             Stage::Ended(answer) => return Ok(Kind::Ending(if *answer {

@@ -1,8 +1,9 @@
 ghost use Rattle.std.specs.Prelude.{◌≡◌, List, [], IfOk, length, OnOk, MatchOption, ◌∷◌, take, option_map};
 ghost use Rattle.am_clause.specs.declared.row.Row.{Row};
-ghost use Rattle.am_search.specs.Left.{left_of, turn_with, sources, left_in, candidates_with, left_here};
+ghost use Rattle.am_rules.specs.Inference.{row_of};
+ghost use Rattle.am_search.specs.Left.{left_of, turn_with, sources_at, left_in, candidates_with, left_here};
 ghost use Rattle.am_search.specs.Members.{source_at};
-ghost use Rattle.am_search.specs.Turn.{all_made, made_by, row_of};
+ghost use Rattle.am_search.specs.Turn.{all_made, row_made};
 ghost use Rattle.am_search.specs.declared.setting.Setting.{Setting};
 
 use crate::candidate::{Candidate, Way};
@@ -52,7 +53,9 @@ impl Turn {
         partners: VecDeque<u32>,
     ) -> Result<Turn, NoMemory>
         ensures count { IfOk result (λ t. t.count ≡ length rows.now) }
-        ensures rows { IfOk result (λ t. let s = setting.now in left_of s.ctx.sig.now s.ctx.ins.now s.axioms rows.now t ≡ turn_with s.ctx.sig.now s.ctx.ins.now (sources s.axioms rows.now partners.items) (source_at s.axioms rows.now given)) }
+        ensures rows { IfOk result (λ t. let s = setting.now in left_of s.ctx.sig.now s.ctx.ins.now s.axioms rows.now t
+            ≡ turn_with s.ctx.sig.now s.ctx.ins.now (sources_at s.axioms rows.now partners.items)
+            (source_at s.axioms rows.now given)) }
     {
         let _sig = setting.ctx.sig;
         match find(rows, given) {
@@ -85,7 +88,11 @@ impl Turn {
         rows: &[Row],
     ) -> Result<Option<Row>, NoMemory>
         ensures count { OnOk result (self.new.count ≡ self.old.count) }
-        ensures next { IfOk result (λ o. let s = setting.now in MatchOption o ((left_of s.ctx.sig.now s.ctx.ins.now s.axioms rows.now self.old ≡ []) × (left_of s.ctx.sig.now s.ctx.ins.now s.axioms rows.now self.new ≡ [])) (λ row. left_of s.ctx.sig.now s.ctx.ins.now s.axioms rows.now self.old ≡ row ∷ left_of s.ctx.sig.now s.ctx.ins.now s.axioms rows.now self.new)) }
+        ensures next { IfOk result (λ o. let s = setting.now in MatchOption o
+            ((left_of s.ctx.sig.now s.ctx.ins.now s.axioms rows.now self.old ≡ [])
+            × (left_of s.ctx.sig.now s.ctx.ins.now s.axioms rows.now self.new ≡ [])) (λ row.
+            left_of s.ctx.sig.now s.ctx.ins.now s.axioms rows.now self.old ≡ row
+            ∷ left_of s.ctx.sig.now s.ctx.ins.now s.axioms rows.now self.new)) }
     {
         self.next_among(alloc, setting, front(rows, self.count))
     }
@@ -98,7 +105,11 @@ impl Turn {
         rows: &[Row],
     ) -> Result<Option<Row>, NoMemory>
         ensures count { OnOk result (self.new.count ≡ self.old.count) }
-        ensures next { IfOk result (λ o. let s = setting.now in MatchOption o ((left_in s.ctx.sig.now s.ctx.ins.now s.axioms rows.now self.old ≡ []) × (left_in s.ctx.sig.now s.ctx.ins.now s.axioms rows.now self.new ≡ [])) (λ row. left_in s.ctx.sig.now s.ctx.ins.now s.axioms rows.now self.old ≡ row ∷ left_in s.ctx.sig.now s.ctx.ins.now s.axioms rows.now self.new)) }
+        ensures next { IfOk result (λ o. let s = setting.now in MatchOption o
+            ((left_in s.ctx.sig.now s.ctx.ins.now s.axioms rows.now self.old ≡ [])
+            × (left_in s.ctx.sig.now s.ctx.ins.now s.axioms rows.now self.new ≡ [])) (λ row.
+            left_in s.ctx.sig.now s.ctx.ins.now s.axioms rows.now self.old ≡ row
+            ∷ left_in s.ctx.sig.now s.ctx.ins.now s.axioms rows.now self.new)) }
     {
         let Some(row) = find(rows, self.given) else {
             return Ok(None);
@@ -138,7 +149,8 @@ fn fill(
     g: &Source,
     n: u32,
 ) -> Result<VecDeque<Candidate>, NoMemory>
-    ensures { IfOk result (λ cs. cs.items ≡ candidates_with setting.now.ctx.sig.now g.now (source_at setting.now.axioms rows.now n)) }
+    ensures { IfOk result (λ cs. cs.items ≡ candidates_with setting.now.ctx.sig.now g.now
+        (source_at setting.now.axioms rows.now n)) }
 {
     match find(rows, n) {
         Some(row) => {
@@ -158,7 +170,11 @@ fn next_here(
     n: u32,
     candidates: &mut VecDeque<Candidate>,
 ) -> Result<Option<Row>, NoMemory>
-    ensures { IfOk result (λ o. let s = setting.now in MatchOption o ((left_here s.ctx.sig.now s.ctx.ins.now g.now (source_at s.axioms rows.now n) candidates.old.items ≡ []) × (left_here s.ctx.sig.now s.ctx.ins.now g.now (source_at s.axioms rows.now n) candidates.new.items ≡ [])) (λ row. left_here s.ctx.sig.now s.ctx.ins.now g.now (source_at s.axioms rows.now n) candidates.old.items ≡ row ∷ left_here s.ctx.sig.now s.ctx.ins.now g.now (source_at s.axioms rows.now n) candidates.new.items)) }
+    ensures { IfOk result (λ o. let s = setting.now in MatchOption o
+        ((left_here s.ctx.sig.now s.ctx.ins.now g.now (source_at s.axioms rows.now n) candidates.old.items ≡ [])
+        × (left_here s.ctx.sig.now s.ctx.ins.now g.now (source_at s.axioms rows.now n) candidates.new.items ≡ []))
+        (λ row. left_here s.ctx.sig.now s.ctx.ins.now g.now (source_at s.axioms rows.now n) candidates.old.items ≡ row
+        ∷ left_here s.ctx.sig.now s.ctx.ins.now g.now (source_at s.axioms rows.now n) candidates.new.items)) }
 {
     match find(rows, n) {
         Some(row) => {
@@ -177,7 +193,11 @@ fn next_of(
     p: &Source,
     candidates: &mut VecDeque<Candidate>,
 ) -> Result<Option<Row>, NoMemory>
-    ensures { IfOk result (λ o. MatchOption o ((all_made ctx.now.sig.now ctx.now.ins.now g.now p.now candidates.old.items ≡ []) × (all_made ctx.now.sig.now ctx.now.ins.now g.now p.now candidates.new.items ≡ [])) (λ row. all_made ctx.now.sig.now ctx.now.ins.now g.now p.now candidates.old.items ≡ row ∷ all_made ctx.now.sig.now ctx.now.ins.now g.now p.now candidates.new.items)) }
+    ensures { IfOk result (λ o. MatchOption o
+        ((all_made ctx.now.sig.now ctx.now.ins.now g.now p.now candidates.old.items ≡ [])
+        × (all_made ctx.now.sig.now ctx.now.ins.now g.now p.now candidates.new.items ≡ [])) (λ row.
+        all_made ctx.now.sig.now ctx.now.ins.now g.now p.now candidates.old.items ≡ row
+        ∷ all_made ctx.now.sig.now ctx.now.ins.now g.now p.now candidates.new.items)) }
 {
     while let Some(candidate) = candidates.pop_front() {
         if let Some(row) = attempt(alloc, ctx, g, p, candidate)? {
@@ -188,7 +208,7 @@ fn next_of(
 }
 
 // The row that an inference makes, if it succeeds.
-#[tactic(auto, unfolding(crate::specs::Turn::made_by))]
+#[tactic(auto, unfolding(crate::specs::Turn::row_made))]
 fn attempt(
     alloc: Global,
     ctx: &Ctx,
@@ -196,7 +216,7 @@ fn attempt(
     p: &Source,
     candidate: Candidate,
 ) -> Result<Option<Row>, NoMemory>
-    ensures { IfOk result (λ o. o ≡ made_by ctx.now.sig.now ctx.now.ins.now g.now p.now candidate) }
+    ensures { IfOk result (λ o. o ≡ row_made ctx.now.sig.now ctx.now.ins.now g.now p.now candidate) }
 {
     match candidate {
         Candidate::Factor { i, j } => {

@@ -37,7 +37,8 @@ pub fn take_in(
     rewriter: &mut Rewriter,
 ) -> Result<(), NoMemory>
     requires { let t = setting.now in rewriter.old ≡ processed_units t.ctx.sig.now t.axioms rows.now choices.now }
-    ensures { OnOk result (let t = setting.now in rewriter.new ≡ processed_units t.ctx.sig.now t.axioms rows.now (choices.now ++ number ∷ [])) }
+    ensures { OnOk result (let t = setting.now in rewriter.new ≡ processed_units t.ctx.sig.now t.axioms rows.now
+        (choices.now ++ number ∷ [])) }
 {
     if number <= setting.axioms {
         return Ok(());
@@ -62,7 +63,8 @@ fn put(
     row: &Row,
     rewriter: &mut Rewriter,
 ) -> Result<(), NoMemory>
-    ensures { OnOk result (rewriter.new ≡ with_units (unit_of setting.now.ctx.sig.now (number, row.now.clause)) rewriter.old) }
+    ensures { OnOk result (rewriter.new ≡ with_units
+        (unit_of setting.now.ctx.sig.now (number, row.now.clause)) rewriter.old) }
 {
     rewriter.add(alloc, &setting.ctx, number, &row.clause)?;
     Ok(())

@@ -29,7 +29,8 @@ impl Model for WeighedRows {
 
     ghost view = { λ s. s.rows.items };
 
-    ghost invariant = { λ s. (s.weights.items ≡ map row_weight s.rows.items) × (s.features.items ≡ map row_features s.rows.items) };
+    ghost invariant = { λ s. (s.weights.items ≡ map row_weight s.rows.items)
+        × (s.features.items ≡ map row_features s.rows.items) };
 }
 
 impl WeighedRows {

@@ -20,7 +20,7 @@ use Rattle.am_bank.specs.declared.id.TermId.{TermId}
 use Rattle.am_bank.specs.Node.{Shared}
 use Rattle.am_bank.specs.Bank.{IsBank}
 use Rattle.am_sharing.specs.Terms.{term_at, terms_at, some_reaches, exceeds_all}
-use Rattle.am_sharing.specs.Bound.{bound}
+use Rattle.am_sharing.specs.Bound.{id_bound}
 use Rattle.am_sharing.proofs.Nodes.{same-id, bound-at}
 
 list_all-map : {X Y : Type 0} (test : Y → Bool) (h : X → Y) (xs : List X) → list_all test (map h xs) ≡ list_all (λ x. test (h x)) xs
@@ -150,7 +150,7 @@ module _ (ns : List Shared) where
       nothing [] = refl
       nothing (t ∷ ts) = refl
 
-  module _ (bank : IsBank ns) (is js : List TermId) (i : ℕ) (d : TermId) (k : i < length is) (l : i < length js) (p : bound is ≤ length ns) (q : bound js ≤ length ns) where
+  module _ (bank : IsBank ns) (is js : List TermId) (i : ℕ) (d : TermId) (k : i < length is) (l : i < length js) (p : id_bound is ≤ length ns) (q : id_bound js ≤ length ns) where
     same : ((get_or is i d).0 == (get_or js i d).0) ≡ same_term (term_at ns (get_or is i d).0) (term_at ns (get_or js i d).0)
     same = let a = bound-at is i d k in let b = bound-at js i d l in same-id ns bank (get_or is i d).0 (get_or js i d).0 (omega arith) (omega arith)
 

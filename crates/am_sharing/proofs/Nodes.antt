@@ -11,13 +11,13 @@ use Rattle.am_term.proofs.Alike.{same_term-is}
 use Rattle.am_bank.specs.declared.id.TermId.{TermId}
 use Rattle.am_bank.specs.declared.node.Node.{Node}
 use Rattle.am_bank.specs.declared.node.Node.TheVariants as node
-use Rattle.am_bank.specs.Node.{Shared, numbers, shared}
+use Rattle.am_bank.specs.Node.{Shared, numbers, node_shared}
 use Rattle.am_bank.specs.Bank.{IsBank}
 use Rattle.am_bank.specs.Trees.{tree}
 use Rattle.am_bank.proofs.Trees.{tree-there}
 use Rattle.am_bank.proofs.EqualTrees.{tree-Var, tree-In, tree-App, equal_trees}
 use Rattle.am_sharing.specs.Terms.{term_at, terms_at, node_term}
-use Rattle.am_sharing.specs.Bound.{bound, node_bound}
+use Rattle.am_sharing.specs.Bound.{id_bound, node_bound}
 
 pub term_at-is : (ns : List Shared) (i : ℕ) (t : Term) → tree ns i ≡ Some t → term_at ns i ≡ t
 unfolding term_at
@@ -35,16 +35,16 @@ terms_at-is ns (i ∷ ids) (t ∷ ts) e =
     let behind : map (tree ns) (numbers ids) ≡ map Some ts = cc in
     let h = term_at-is ns i.0 t here in let b = terms_at-is ns ids ts behind in cc
 
-bound-below : (ids : List TermId) (n : ℕ) → ((k i : ℕ) → slice_get (numbers ids) k ≡ Some i → i < n) → bound ids ≤ n
+bound-below : (ids : List TermId) (n : ℕ) → ((k i : ℕ) → slice_get (numbers ids) k ≡ Some i → i < n) → id_bound ids ≤ n
 bound-below [] n below = omega arith
 bound-below (i ∷ ids) n below = let h = below zero i.0 refl in let b = bound-below ids n (λ k j e. below (suc k) j e) in omega arith
 
-pub node-below : (ns : List Shared) → IsBank ns → (i : ℕ) (x : Node) → slice_get ns i ≡ Some (shared x) → node_bound x ≤ i
+pub node-below : (ns : List Shared) → IsBank ns → (i : ℕ) (x : Node) → slice_get ns i ≡ Some (node_shared x) → node_bound x ≤ i
 node-below ns bank i (node.Var n s) e = omega arith
 node-below ns bank i (node.In k) e = omega arith
-node-below ns bank i (node.App f args) e = bound-below args.items i (bank.below i (shared (node.App f args)) e)
+node-below ns bank i (node.App f args) e = bound-below args.items i (bank.below i (node_shared (node.App f args)) e)
 
-pub node-term : (ns : List Shared) → IsBank ns → (i : ℕ) (x : Node) → slice_get ns i ≡ Some (shared x) → term_at ns i ≡ node_term ns x
+pub node-term : (ns : List Shared) → IsBank ns → (i : ℕ) (x : Node) → slice_get ns i ≡ Some (node_shared x) → term_at ns i ≡ node_term ns x
 node-term ns bank i (node.Var n s) e = term_at-is ns i (term.Var n s) (tree-Var ns bank i n s e)
 node-term ns bank i (node.In k) e = term_at-is ns i (term.In k) (tree-In ns bank i k e)
 node-term ns bank i (node.App f args) e =
@@ -72,12 +72,12 @@ same-id ns bank i j h k =
     (λ e. number-same i j (equal_trees ns bank (term_at ns i) i j (tree-is ns i h) (tree-is ns j k ∙ ap Some (sym e))))
 
 -- bounds of members and of what is behind
-pub bound-at : (ids : List TermId) (i : ℕ) (d : TermId) → i < length ids → (get_or ids i d).0 + 1 ≤ bound ids
+pub bound-at : (ids : List TermId) (i : ℕ) (d : TermId) → i < length ids → (get_or ids i d).0 + 1 ≤ id_bound ids
 bound-at [] i d h = absurd (omega arith)
 bound-at (j ∷ ids) zero d h = omega arith
 bound-at (j ∷ ids) (suc i) d h = let b = bound-at ids i d (omega arith) in omega arith
 
-pub bound-drop : (ids : List TermId) (i : ℕ) → bound (drop i ids) ≤ bound ids
+pub bound-drop : (ids : List TermId) (i : ℕ) → id_bound (drop i ids) ≤ id_bound ids
 bound-drop [] zero = omega arith
 bound-drop [] (suc i) = omega arith
 bound-drop (j ∷ ids) zero = omega arith

@@ -15,8 +15,8 @@ use Rattle.am_bank.specs.Bank.{Grows}
 use Rattle.am_bank.proofs.Trees.{tree-there}
 use Rattle.am_bank.proofs.Stays.{tree-stays}
 use Rattle.am_sharing.specs.Terms.{term_at, terms_at, node_term}
-use Rattle.am_sharing.specs.Bound.{bound, node_bound}
-use Rattle.am_sharing.specs.SortTable.{IsSortTable, sorts_in, node_sorts}
+use Rattle.am_sharing.specs.Bound.{id_bound, node_bound}
+use Rattle.am_sharing.specs.SortTable.{IsSortTable, sorts_in_table, node_sorts}
 use Rattle.am_sharing.proofs.Nodes.{tree-is, term_at-is, bound-at}
 
 -- within a list no other is read
@@ -38,15 +38,15 @@ module _ (sig : Signature) where
       and_false false = refl
 
   module _ (table : List (Option SortId)) where
-    length-sorts : (ids : List TermId) → length (sorts_in table ids) ≡ length ids
+    length-sorts : (ids : List TermId) → length (sorts_in_table table ids) ≡ length ids
     length-sorts [] = refl
     length-sorts (i ∷ ids) = ap suc (length-sorts ids)
 
-    pub ids-count : (ids : List TermId) (ps : List SortId) → length ids ≢ length ps → fit_places sig (sorts_in table ids) ps ≡ false
-    ids-count ids ps h = places-count (sorts_in table ids) ps (λ e. h (sym (length-sorts ids) ∙ e))
+    pub ids-count : (ids : List TermId) (ps : List SortId) → length ids ≢ length ps → fit_places sig (sorts_in_table table ids) ps ≡ false
+    ids-count ids ps h = places-count (sorts_in_table table ids) ps (λ e. h (sym (length-sorts ids) ∙ e))
 
     -- the first of what is left, and what is behind it
-    pub ids-fit : (ids : List TermId) (ps : List SortId) (i : ℕ) (d : TermId) (p : SortId) → i < length ids → i < length ps → fit_places sig (sorts_in table (drop i ids)) (drop i ps) ≡ (fits_place sig (get_or table (get_or ids i d).0 None) (get_or ps i p) && fit_places sig (sorts_in table (drop (i + 1) ids)) (drop (i + 1) ps))
+    pub ids-fit : (ids : List TermId) (ps : List SortId) (i : ℕ) (d : TermId) (p : SortId) → i < length ids → i < length ps → fit_places sig (sorts_in_table table (drop i ids)) (drop i ps) ≡ (fits_place sig (get_or table (get_or ids i d).0 None) (get_or ps i p) && fit_places sig (sorts_in_table table (drop (i + 1) ids)) (drop (i + 1) ps))
     ids-fit ids ps i d p h k = rw (drop_more ids i d h, drop_more ps i p k) refl
 
 pub ruleset places = (common_steps, nat_tests, bound-at, read-within, ids-count, ids-fit)
@@ -59,7 +59,7 @@ module _ (sig : Signature) (ins : List SortId) (ns : List Shared) where
     pub sort-in : (i : ℕ) → i < length table → get_or table i None ≡ sort_of sig ins (term_at ns i)
     sort-in i h = let w = is.within in is.sorts i (term_at ns i) h (tree-is ns i (omega arith))
 
-    sorts-are : (ids : List TermId) → bound ids ≤ length table → sorts_in table ids ≡ sorts_of sig ins (terms_at ns ids)
+    sorts-are : (ids : List TermId) → id_bound ids ≤ length table → sorts_in_table table ids ≡ sorts_of sig ins (terms_at ns ids)
     sorts-are [] h = refl
     sorts-are (i ∷ ids) h = ap₂ (λ (s : Option SortId) (ss : List (Option SortId)). s ∷ ss) (sort-in i.0 (omega arith)) (sorts-are ids (omega arith))
 

@@ -1,4 +1,4 @@
--- Words of private contracts: variables' numbers with ids, in order of the numbers.
+-- Variables' numbers with ids, in order of the numbers: words of `inserted` and of private contracts.
 use Rattle.std.specs.Prelude.{◌+◌, ◌==◌, ℕ, Bool, List, [], ◌∷◌, Option, Some, None, map, max, nat_lt, option_map, if◌then◌else◌}
 use Rattle.am_term.specs.declared.term.Term.{Term}
 use Rattle.am_bank.specs.declared.id.TermId.{TermId}

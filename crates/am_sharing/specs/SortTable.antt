@@ -17,11 +17,11 @@ pub record IsSortTable (sig : Signature) (ins : List SortId) (ns : List Shared) 
   pub sorts : (i : ℕ) (t : Term) → i < length table → tree ns i ≡ Some t → get_or table i None ≡ sort_of sig ins t
 
 -- the sorts of some ids
-abbrev pub sorts_in : List (Option SortId) → List TermId → List (Option SortId)
-sorts_in table = map (λ (i : TermId). get_or table i.0 None)
+abbrev pub sorts_in_table : List (Option SortId) → List TermId → List (Option SortId)
+sorts_in_table table = map (λ (i : TermId). get_or table i.0 None)
 
 -- a node with its arguments' sorts, of which its own sort is made
 abbrev pub node_sorts : List (Option SortId) → Node → Term-F (Option SortId)
 node_sorts table (node.Var n s) = Term-F.Var n s
 node_sorts table (node.In k) = Term-F.In k
-node_sorts table (node.App f args) = Term-F.App f (sorts_in table args.items)
+node_sorts table (node.App f args) = Term-F.App f (sorts_in_table table args.items)

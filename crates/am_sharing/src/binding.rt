@@ -19,7 +19,7 @@ pub fn held(found: &[(u32, TermId)], n: u32, id: TermId) -> Option<bool>
     None
 }
 
-// One more pair, in order of the numbers.
+/// The pairs with one more, in order of the numbers.
 #[tactic(auto, using(crate::proofs::Pairs::inserting))]
 pub fn inserted(
     alloc: Global,

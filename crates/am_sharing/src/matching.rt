@@ -5,15 +5,15 @@ ghost use Rattle.am_unify.specs.Matching.{bind_held, held as is_held, match_all,
 ghost use Rattle.am_unify.specs.Unifier.{IsSortedUnder};
 ghost use Rattle.am_bank.specs.Bank.{IsBank};
 ghost use Rattle.am_bank.specs.Trees.{tree};
-ghost use Rattle.am_sharing.specs.Bound.{bound};
+ghost use Rattle.am_sharing.specs.Bound.{id_bound};
 ghost use Rattle.am_sharing.specs.Matching.{IsMatchedShared};
 ghost use Rattle.am_sharing.specs.Pairs.{answer_at, answer_bound, pairs_at, pairs_bound};
 ghost use Rattle.am_sharing.specs.SortTable.{IsSortTable};
 ghost use Rattle.am_sharing.specs.Terms.{term_at, terms_at};
 
 use crate::binding::{held, inserted};
-use crate::node::node;
-use crate::sorting::sort_at;
+use crate::node::node_at;
+use crate::sorting::sort_shared;
 use am_bank::{Bank, Node, SharedSubst, TermId};
 use am_term::{Ctx, NoMemory, SortId, fits};
 use sqlite_items::Items;
@@ -32,7 +32,9 @@ pub fn matches_shared(
 ) -> Result<Option<SharedSubst>, NoMemory>
     requires pattern { pattern.0 < length bank.now }
     requires term { term.0 < length bank.now }
-    ensures { (sorts : ℕ → SortId) (a b : Term) → tree bank.now pattern.0 ≡ Some a → tree bank.now term.0 ≡ Some b → IsSortedUnder ctx.now.sig.now ctx.now.ins.now sorts a → IfOk result (λ o. IsMatchedShared bank.now ctx.now.sig.now ctx.now.ins.now sorts a b o) }
+    ensures { (sorts : ℕ → SortId) (a b : Term) → tree bank.now pattern.0 ≡ Some a → tree bank.now term.0 ≡ Some b
+        → IsSortedUnder ctx.now.sig.now ctx.now.ins.now sorts a
+        → IfOk result (λ o. IsMatchedShared bank.now ctx.now.sig.now ctx.now.ins.now sorts a b o) }
 {
     let mut table = Items::new(alloc);
     matches_tabled(alloc, ctx, bank, &mut table, pattern, term)
@@ -52,7 +54,9 @@ pub fn matches_tabled(
     requires pattern { pattern.0 < length bank.now }
     requires term { term.0 < length bank.now }
     requires table { IsSortTable ctx.now.sig.now ctx.now.ins.now bank.now table.old }
-    ensures answer { (sorts : ℕ → SortId) (a b : Term) → tree bank.now pattern.0 ≡ Some a → tree bank.now term.0 ≡ Some b → IsSortedUnder ctx.now.sig.now ctx.now.ins.now sorts a → IfOk result (λ o. IsMatchedShared bank.now ctx.now.sig.now ctx.now.ins.now sorts a b o) }
+    ensures answer { (sorts : ℕ → SortId) (a b : Term) → tree bank.now pattern.0 ≡ Some a
+        → tree bank.now term.0 ≡ Some b → IsSortedUnder ctx.now.sig.now ctx.now.ins.now sorts a
+        → IfOk result (λ o. IsMatchedShared bank.now ctx.now.sig.now ctx.now.ins.now sorts a b o) }
     ensures table { IsSortTable ctx.now.sig.now ctx.now.ins.now bank.now table.new }
 {
     match extended(alloc, ctx, bank, table, pattern, term, Items::new(alloc))? {
@@ -77,11 +81,12 @@ fn extended(
     requires term { term.0 < length bank.now }
     requires found { pairs_bound found ≤ length bank.now }
     requires table { IsSortTable ctx.now.sig.now ctx.now.ins.now bank.now table.old }
-    ensures is { IfOk result (λ o. answer_at bank.now o ≡ matched ctx.now.sig.now ctx.now.ins.now (term_at bank.now pattern.0) (term_at bank.now term.0) (pairs_at bank.now found)) }
+    ensures is { IfOk result (λ o. answer_at bank.now o ≡ matched ctx.now.sig.now ctx.now.ins.now
+        (term_at bank.now pattern.0) (term_at bank.now term.0) (pairs_at bank.now found)) }
     ensures within { IfOk result (λ o. answer_bound o ≤ length bank.now) }
     ensures table { IsSortTable ctx.now.sig.now ctx.now.ins.now bank.now table.new }
 {
-    match node(bank, pattern) {
+    match node_at(bank, pattern) {
         Node::Var { n, sort } => variable_bound(alloc, ctx, bank, table, (*n, *sort), term, found),
         Node::In { .. } => {
             if pattern == term {
@@ -89,7 +94,7 @@ fn extended(
             }
             Ok(None)
         }
-        Node::App { f, args } => match node(bank, term) {
+        Node::App { f, args } => match node_at(bank, term) {
             Node::Var { .. } => Ok(None),
             Node::In { .. } => Ok(None),
             Node::App { f: g, args: others } => {
@@ -122,11 +127,13 @@ fn extended_all(
     terms: &[TermId],
     found: Items<(u32, TermId)>,
 ) -> Result<Option<Items<(u32, TermId)>>, NoMemory>
-    requires patterns { bound patterns.now ≤ length bank.now }
-    requires terms { bound terms.now ≤ length bank.now }
+    requires patterns { id_bound patterns.now ≤ length bank.now }
+    requires terms { id_bound terms.now ≤ length bank.now }
     requires found { pairs_bound found ≤ length bank.now }
     requires table { IsSortTable ctx.now.sig.now ctx.now.ins.now bank.now table.old }
-    ensures is { IfOk result (λ o. answer_at bank.now o ≡ match_all (map (matched ctx.now.sig.now ctx.now.ins.now) (terms_at bank.now patterns.now)) (terms_at bank.now terms.now) (pairs_at bank.now found)) }
+    ensures is { IfOk result (λ o. answer_at bank.now o ≡ match_all
+        (map (matched ctx.now.sig.now ctx.now.ins.now) (terms_at bank.now patterns.now)) (terms_at bank.now terms.now)
+        (pairs_at bank.now found)) }
     ensures within { IfOk result (λ o. answer_bound o ≤ length bank.now) }
     ensures table { IsSortTable ctx.now.sig.now ctx.now.ins.now bank.now table.new }
 {
@@ -158,7 +165,9 @@ fn variable_bound(
     requires term { term.0 < length bank.now }
     requires found { pairs_bound found ≤ length bank.now }
     requires table { IsSortTable ctx.now.sig.now ctx.now.ins.now bank.now table.old }
-    ensures is { IfOk result (λ o. answer_at bank.now o ≡ bind_held ctx.now.sig.now ctx.now.ins.now variable.0 variable.1 (term_at bank.now term.0) (pairs_at bank.now found) (is_held (pairs_at bank.now found) variable.0 (term_at bank.now term.0))) }
+    ensures is { IfOk result (λ o. answer_at bank.now o ≡ bind_held ctx.now.sig.now ctx.now.ins.now variable.0
+        variable.1 (term_at bank.now term.0) (pairs_at bank.now found)
+        (is_held (pairs_at bank.now found) variable.0 (term_at bank.now term.0))) }
     ensures within { IfOk result (λ o. answer_bound o ≤ length bank.now) }
     ensures table { IsSortTable ctx.now.sig.now ctx.now.ins.now bank.now table.new }
 {
@@ -168,7 +177,7 @@ fn variable_bound(
         Some(false) => return Ok(None),
         None => {}
     }
-    let Some(own) = sort_at(ctx, bank, table, term)? else {
+    let Some(own) = sort_shared(ctx, bank, table, term)? else {
         return Ok(None);
     };
     if !fits(ctx.sig, own, sort) {

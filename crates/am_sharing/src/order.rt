@@ -3,9 +3,9 @@ ghost use Rattle.am_order.specs.Order.{greater as is_greater};
 ghost use Rattle.am_order.specs.Parts.{common_front as front_of};
 ghost use Rattle.am_bank.specs.Bank.{IsBank};
 ghost use Rattle.am_sharing.specs.Terms.{term_at, terms_at, some_reaches, exceeds_all};
-ghost use Rattle.am_sharing.specs.Bound.{bound};
+ghost use Rattle.am_sharing.specs.Bound.{id_bound};
 
-use crate::node::node;
+use crate::node::node_at;
 use crate::precedence::above;
 use am_bank::{Bank, Node, TermId};
 use am_term::Signature;
@@ -18,8 +18,8 @@ pub fn greater(sig: &Signature, bank: &Bank, s: TermId, t: TermId) -> bool
     requires right { t.0 < length bank.now }
     ensures { result ≡ is_greater sig.now (term_at bank.now s.0) (term_at bank.now t.0) }
 {
-    match node(bank, s) {
-        Node::App { f, args } => match node(bank, t) {
+    match node_at(bank, s) {
+        Node::App { f, args } => match node_at(bank, t) {
             Node::App { f: g, args: others } => {
                 let args = args.as_slice();
                 let others = others.as_slice();
@@ -41,7 +41,7 @@ pub fn greater(sig: &Signature, bank: &Bank, s: TermId, t: TermId) -> bool
             Node::Var { .. } => reaches(sig, bank, args.as_slice(), t),
             Node::In { .. } => true,
         },
-        Node::In { k } => match node(bank, t) {
+        Node::In { k } => match node_at(bank, t) {
             Node::In { k: j } => *j < *k,
             Node::Var { .. } => false,
             Node::App { .. } => false,
@@ -55,7 +55,7 @@ pub fn greater(sig: &Signature, bank: &Bank, s: TermId, t: TermId) -> bool
 #[tactic(auto, using(crate::proofs::Walks::walks))]
 fn reaches(sig: &Signature, bank: &Bank, terms: &[TermId], t: TermId) -> bool
     requires bank { IsBank bank.now }
-    requires left { bound terms.now ≤ length bank.now }
+    requires left { id_bound terms.now ≤ length bank.now }
     requires right { t.0 < length bank.now }
     ensures { result ≡ some_reaches sig.now bank.now terms.now t.0 }
 {
@@ -72,7 +72,7 @@ fn reaches(sig: &Signature, bank: &Bank, terms: &[TermId], t: TermId) -> bool
 #[tactic(auto, using(crate::proofs::Walks::walks))]
 fn exceeds(sig: &Signature, bank: &Bank, s: TermId, terms: &[TermId]) -> bool
     requires left { s.0 < length bank.now }
-    requires right { bound terms.now ≤ length bank.now }
+    requires right { id_bound terms.now ≤ length bank.now }
     ensures { result ≡ exceeds_all sig.now bank.now s.0 terms.now }
 {
     for term in terms {
@@ -87,8 +87,8 @@ fn exceeds(sig: &Signature, bank: &Bank, s: TermId, terms: &[TermId]) -> bool
 #[tactic(auto, using(crate::proofs::Walks::front_walks))]
 fn in_common(bank: &Bank, terms: &[TermId], others: &[TermId]) -> usize
     requires bank { IsBank bank.now }
-    requires terms_of { bound terms.now ≤ length bank.now }
-    requires others_of { bound others.now ≤ length bank.now }
+    requires terms_of { id_bound terms.now ≤ length bank.now }
+    requires others_of { id_bound others.now ≤ length bank.now }
     ensures count { result ≡ front_of (terms_at bank.now terms.now) (terms_at bank.now others.now) }
     ensures left { result ≤ length terms.now }
     ensures right { result ≤ length others.now }

@@ -25,9 +25,12 @@ pub fn greater_shared(sig: &Signature, bank: &Bank, s: TermId, t: TermId) -> boo
 pub fn orient_shared(sig: &Signature, bank: &Bank, left: TermId, right: TermId) -> Oriented
     requires left { left.0 < length bank.now }
     requires right { right.0 < length bank.now }
-    ensures left { (a b : Term) → tree bank.now left.0 ≡ Some a → tree bank.now right.0 ≡ Some b → (result ≡ Oriented.Left) ↔ IsTrue (is_greater sig.now a b) }
-    ensures right { (a b : Term) → tree bank.now left.0 ≡ Some a → tree bank.now right.0 ≡ Some b → (result ≡ Oriented.Right) ↔ IsTrue (is_greater sig.now b a) }
-    ensures neither { (a b : Term) → tree bank.now left.0 ≡ Some a → tree bank.now right.0 ≡ Some b → (result ≡ Oriented.Neither) ↔ ((is_greater sig.now a b ≡ false) × (is_greater sig.now b a ≡ false)) }
+    ensures left { (a b : Term) → tree bank.now left.0 ≡ Some a → tree bank.now right.0 ≡ Some b
+        → (result ≡ Oriented.Left) ↔ IsTrue (is_greater sig.now a b) }
+    ensures right { (a b : Term) → tree bank.now left.0 ≡ Some a → tree bank.now right.0 ≡ Some b
+        → (result ≡ Oriented.Right) ↔ IsTrue (is_greater sig.now b a) }
+    ensures neither { (a b : Term) → tree bank.now left.0 ≡ Some a → tree bank.now right.0 ≡ Some b
+        → (result ≡ Oriented.Neither) ↔ ((is_greater sig.now a b ≡ false) × (is_greater sig.now b a ≡ false)) }
 {
     if greater(sig, bank, left, right) {
         return Oriented::Left;

@@ -1,17 +1,18 @@
 ghost use Rattle.std.specs.Prelude.{◌≡◌, ◌<◌, ◌≤◌, None, IfOk, OnOk, get_or, length};
 ghost use Rattle.am_term.specs.Sorting.{fit_places, sort_of, sort_step};
-ghost use Rattle.am_sharing.specs.Bound.{bound, node_bound};
-ghost use Rattle.am_sharing.specs.SortTable.{IsSortTable, node_sorts, sorts_in};
+ghost use Rattle.am_sharing.specs.Bound.{id_bound, node_bound};
+ghost use Rattle.am_sharing.specs.SortTable.{IsSortTable, node_sorts, sorts_in_table};
 ghost use Rattle.am_sharing.specs.Terms.{term_at};
 
-use crate::node::node;
+use crate::node::node_at;
 use am_bank::{Bank, Node, TermId};
 use am_term::{Ctx, NoMemory, Signature, SortId, fits};
 use sqlite_items::Items;
 
-// The sort of an id's term, as `am_term` gives terms their sorts. The table is filled up to the id.
+/// The sort of an id's term, as `am_term` gives terms their sorts. The table is filled up to the id; a new one is
+/// empty, and one table serves one signature with sorts of inputs and one bank, which may grow.
 #[tactic(auto, using(crate::proofs::Sorted::sorting_ids))]
-pub fn sort_at(
+pub fn sort_shared(
     ctx: &Ctx,
     bank: &Bank,
     table: &mut Items<Option<SortId>>,
@@ -53,7 +54,7 @@ fn next_sort(ctx: &Ctx, bank: &Bank, table: &[Option<SortId>]) -> Option<SortId>
     requires table { IsSortTable ctx.now.sig.now ctx.now.ins.now bank.now table.now }
     ensures { result ≡ sort_of ctx.now.sig.now ctx.now.ins.now (term_at bank.now (length table.now)) }
 {
-    let next = node(bank, TermId(table.len() as u64));
+    let next = node_at(bank, TermId(table.len() as u64));
     node_sort(ctx, table, next)
 }
 
@@ -88,8 +89,8 @@ fn node_sort(ctx: &Ctx, table: &[Option<SortId>], node: &Node) -> Option<SortId>
 // Whether there are as many ids as places, and the sort of each fits its place.
 #[tactic(auto, using(crate::proofs::Sorted::places))]
 fn fit(sig: &Signature, table: &[Option<SortId>], ids: &[TermId], places: &[SortId]) -> bool
-    requires { bound ids.now ≤ length table.now }
-    ensures { result ≡ fit_places sig.now (sorts_in table.now ids.now) places.now }
+    requires { id_bound ids.now ≤ length table.now }
+    ensures { result ≡ fit_places sig.now (sorts_in_table table.now ids.now) places.now }
 {
     if ids.len() != places.len() {
         return false;

@@ -22,13 +22,13 @@ use Rattle.am_term.specs.declared.term.Term.TheViews.{out-Term, the_lemmas}
 use Rattle.am_term.proofs.Alike.{same_term-sound}
 use Rattle.am_term.proofs.Instances.{nodes-positive}
 use Rattle.am_term.proofs.Tests.{and_left, and_right}
-use Rattle.am_term.specs.Same.{same_term-In}
+use Rattle.am_term.specs.Same.{same_term-In, all_pass}
 use Rattle.am_clause.specs.declared.clause.Clause.{Clause}
 use Rattle.am_rules.proofs.Standing.{never}
 use Rattle.am_unify.proofs.Standing.{number_is, number_same}
 use Rattle.am_unify.proofs.Steps.{is_app}
-use Rattle.am_simplify.specs.Agreement.{agree, agree-In, agree-App, all_pass, is_headed}
-use Rattle.am_simplify.specs.Features.{answer_features, are_within, atom_features, bit_of, clause_features, features, features-App, features-Var, features_laws, headed, headed_features, joined, literal_features, literals_features, mix, sign_place}
+use Rattle.am_simplify.specs.Agreement.{term_agrees, agree-In, agree-App, is_headed}
+use Rattle.am_simplify.specs.Features.{answer_features, are_within, atom_features, bit_of, clause_features, features, features-App, features-Var, features_laws, headed, headed_features, joined_features, literal_features, literals_features, place_with, sign_place}
 use Rattle.am_simplify.specs.Subsuming.{Bindings, Goal, covers, match_answer, match_atom, match_literal, match_terms, meets, subsumed_by}
 use Rattle.am_simplify.proofs.Unmatched.{all-unmatched}
 
@@ -60,10 +60,10 @@ each-within a b x y h k = both-within a b (bit_or x y) (left-within a x y h) (ri
 -- ---- terms
 
 abbrev TermWithin : Term → Type 0
-TermWithin t = (u : Term) (place : ℕ) → agree t u ≡ true → Within (features t place) (features u place)
+TermWithin t = (u : Term) (place : ℕ) → term_agrees t u ≡ true → Within (features t place) (features u place)
 
 abbrev AllWithin : List Term → Type 0
-AllWithin ts = (us : List Term) (place : ℕ) → all_pass (map agree ts) us ≡ true → Within (joined place (map features ts)) (joined place (map features us))
+AllWithin ts = (us : List Term) (place : ℕ) → all_pass (map term_agrees ts) us ≡ true → Within (joined_features place (map features ts)) (joined_features place (map features us))
 
 variable-within : (n : ℕ) (s : SortId) → TermWithin (Var n s)
 variable-within n s u place e = ap (λ m. bit_or m (features u place)) (features-Var n s place) ∙ or_zero_l (features u place)
@@ -76,31 +76,31 @@ input-within k u place e =
 application-within : (f : SymId) (args : List Term) → AllWithin args → TermWithin (App f args)
 application-within f args h u place e = by_kind (out-Term u) refl (sym (agree-App f args u) ∙ e)
   where
-    by_count : (g : SymId) (us : List Term) → u ≡ App g us → (f.0 == g.0 && all_pass (map agree args) us) ≡ true → Within (features (App f args) place) (features u place)
+    by_count : (g : SymId) (us : List Term) → u ≡ App g us → (f.0 == g.0 && all_pass (map term_agrees args) us) ≡ true → Within (features (App f args) place) (features u place)
     by_count g us is e =
-        let symbols : f.0 ≡ g.0 = number_is f.0 g.0 (and_left (f.0 == g.0) (all_pass (map agree args) us) e) in
-        let here : ℕ = mix (mix place 2) f.0 in
+        let symbols : f.0 ≡ g.0 = number_is f.0 g.0 (and_left (f.0 == g.0) (all_pass (map term_agrees args) us) e) in
+        let here : ℕ = place_with (place_with place 2) f.0 in
         let own : features (App f args) place ≡ headed_features here args = features-App f args place in
         let other : features u place ≡ headed_features here us =
-        ap (λ t. features t place) is ∙ (features-App g us place ∙ ap (λ n. headed_features (mix (mix place 2) n) us) (sym symbols)) in
+        ap (λ t. features t place) is ∙ (features-App g us place ∙ ap (λ n. headed_features (place_with (place_with place 2) n) us) (sym symbols)) in
         let all : Within (headed_features here args) (headed_features here us) =
-        each-within (bit_of here) (joined here (map features args)) (bit_of here) (joined here (map features us)) (or_self (bit_of here)) (h us here (and_right (f.0 == g.0) (all_pass (map agree args) us) e)) in
+        each-within (bit_of here) (joined_features here (map features args)) (bit_of here) (joined_features here (map features us)) (or_self (bit_of here)) (h us here (and_right (f.0 == g.0) (all_pass (map term_agrees args) us) e)) in
         ap (λ m. bit_or m (features u place)) own ∙ (ap (bit_or (headed_features here args)) other ∙ (all ∙ sym other))
 
-    by_kind : (x : Term-F Term) → out-Term u ≡ x → is_headed f (map agree args) x ≡ true → Within (features (App f args) place) (features u place)
+    by_kind : (x : Term-F Term) → out-Term u ≡ x → is_headed f (map term_agrees args) x ≡ true → Within (features (App f args) place) (features u place)
     by_kind (Term-F.Var n s) is e = never e
     by_kind (Term-F.In k) is e = never e
     by_kind (Term-F.App g us) is e = by_count g us (is_app u g us is) e
 
 none-within : AllWithin []
-none-within us place e = or_zero_l (joined place (map features us))
+none-within us place e = or_zero_l (joined_features place (map features us))
 
 more-within : (t : Term) (ts : List Term) → TermWithin t → AllWithin ts → AllWithin (t ∷ ts)
 more-within t ts h k [] place e = never e
 more-within t ts h k (u ∷ us) place e =
-    each-within (features t place) (joined (mix place 3) (map features ts)) (features u place) (joined (mix place 3) (map features us))
-    (h u place (and_left (agree t u) (all_pass (map agree ts) us) e))
-    (k us (mix place 3) (and_right (agree t u) (all_pass (map agree ts) us) e))
+    each-within (features t place) (joined_features (place_with place 3) (map features ts)) (features u place) (joined_features (place_with place 3) (map features us))
+    (h u place (and_left (term_agrees t u) (all_pass (map term_agrees ts) us) e))
+    (k us (place_with place 3) (and_right (term_agrees t u) (all_pass (map term_agrees ts) us) e))
 
 term-within : (t : Term) → TermWithin t
 term-within = term_induct TermWithin AllWithin variable-within input-within application-within none-within more-within
@@ -113,19 +113,19 @@ all-within (t ∷ ts) = more-within t ts (term-within t) (all-within ts)
 
 module _ (sig : Signature) (ins : List SortId) where
   -- terms that are matched agree
-  matched-agree : (ts us : List Term) (bs cs : Bindings) → match_terms sig ins ts us bs ≡ Some cs → all_pass (map agree ts) us ≡ true
-  matched-agree ts us bs cs e = by (all_pass (map agree ts) us) refl
+  matched-agree : (ts us : List Term) (bs cs : Bindings) → match_terms sig ins ts us bs ≡ Some cs → all_pass (map term_agrees ts) us ≡ true
+  matched-agree ts us bs cs e = by (all_pass (map term_agrees ts) us) refl
     where
       some-none : {A : Type 0} → Some cs ≡ None → A
       some-none e = absurd cc
 
-      by : (b : Bool) → all_pass (map agree ts) us ≡ b → b ≡ true
+      by : (b : Bool) → all_pass (map term_agrees ts) us ≡ b → b ≡ true
       by true is = refl
       by false is = some-none (sym e ∙ all-unmatched sig ins ts us bs is)
 
   terms-within : (place : ℕ) (ts us : List Term) (bs cs : Bindings) → match_terms sig ins ts us bs ≡ Some cs → Within (headed_features place ts) (headed_features place us)
   terms-within place ts us bs cs e =
-      each-within (bit_of place) (joined place (map features ts)) (bit_of place) (joined place (map features us)) (or_self (bit_of place))
+      each-within (bit_of place) (joined_features place (map features ts)) (bit_of place) (joined_features place (map features us)) (or_self (bit_of place))
       (all-within ts us place (matched-agree ts us bs cs e))
 
   atom-within : (place : ℕ) (a b : Atom) (bs cs : Bindings) → match_atom sig ins a b bs ≡ Some cs → Within (atom_features place a) (atom_features place b)
@@ -134,11 +134,11 @@ module _ (sig : Signature) (ins : List SortId) where
       by_symbol : (b : Bool) → (r.0 == q.0) ≡ b → (if b then match_terms sig ins ps ts bs else None) ≡ Some cs → Within (atom_features place (Rel r ps)) (atom_features place (Rel q ts))
       by_symbol false is e = absurd cc
       by_symbol true is e =
-          subst (λ n. Within (headed_features (mix (mix place 4) r.0) ps) (headed_features (mix (mix place 4) n) ts)) (number_is r.0 q.0 is)
-          (terms-within (mix (mix place 4) r.0) ps ts bs cs e)
+          subst (λ n. Within (headed_features (place_with (place_with place 4) r.0) ps) (headed_features (place_with (place_with place 4) n) ts)) (number_is r.0 q.0 is)
+          (terms-within (place_with (place_with place 4) r.0) ps ts bs cs e)
   atom-within place (Rel r ps) (Eq left right) bs cs e = absurd cc
   atom-within place (Eq left right) (Rel q ts) bs cs e = absurd cc
-  atom-within place (Eq left right) (Eq first second) bs cs e = terms-within (mix place 6) (left ∷ right ∷ []) (first ∷ second ∷ []) bs cs e
+  atom-within place (Eq left right) (Eq first second) bs cs e = terms-within (place_with place 6) (left ∷ right ∷ []) (first ∷ second ∷ []) bs cs e
 
   literal-within : (l m : Literal) (bs cs : Bindings) → match_literal sig ins l m bs ≡ Some cs → Within (literal_features l) (literal_features m)
   literal-within l m bs cs e = by_sign l.positive m.positive e

@@ -16,7 +16,7 @@ use Rattle.am_clause.specs.Rules.{part_at}
 use Rattle.am_clause.specs.declared.clause.Clause.{Clause}
 use Rattle.am_simplify.specs.Numbering.{find_map, or_else}
 use Rattle.am_simplify.specs.Places.{places_laws}
-use Rattle.am_simplify.specs.Standing.{AreArguments, AreLiterals, Stands}
+use Rattle.am_simplify.specs.Standing.{AreArguments, AreLiterals, IsPartAt}
 
 pub found-append : {A B : Type 0} (f : A → Option B) (xs ys : List A) → find_map f (xs ++ ys) ≡ or_else (find_map f xs) (find_map f ys)
 found-append f [] ys = refl
@@ -44,29 +44,29 @@ step-down (Some l) (j ∷ path) k t e = by (member (parts_of l.atom) j) e
     by (Some u) e = one-down path k u t e
 
 module _ (c : Clause) (i : ℕ) (path : List ℕ) where
-  arguments-from : (k : ℕ) (ts : List Term) → ((n : ℕ) (t : Term) → slice_get ts n ≡ Some t → Stands c i (path ++ (k + n) ∷ []) t) → AreArguments c i path k ts
+  arguments-from : (k : ℕ) (ts : List Term) → ((n : ℕ) (t : Term) → slice_get ts n ≡ Some t → IsPartAt c i (path ++ (k + n) ∷ []) t) → AreArguments c i path k ts
   arguments-from k [] h = tt
   arguments-from k (t ∷ ts) h = (
-    subst (λ m. Stands c i (path ++ m ∷ []) t) (omega arith) (h 0 t refl),
-    arguments-from (k + 1) ts (λ n u e. subst (λ m. Stands c i (path ++ m ∷ []) u) (omega arith) (h (suc n) u e)),
+    subst (λ m. IsPartAt c i (path ++ m ∷ []) t) (omega arith) (h 0 t refl),
+    arguments-from (k + 1) ts (λ n u e. subst (λ m. IsPartAt c i (path ++ m ∷ []) u) (omega arith) (h (suc n) u e)),
   )
 
-  pub below : (f : SymId) (args : List Term) → Stands c i path (App f args) → AreArguments c i path 1 args
+  pub below : (f : SymId) (args : List Term) → IsPartAt c i path (App f args) → AreArguments c i path 1 args
   below f args s = arguments-from 1 args at
     where
-      at : (n : ℕ) (t : Term) → slice_get args n ≡ Some t → Stands c i (path ++ (1 + n) ∷ []) t
+      at : (n : ℕ) (t : Term) → slice_get args n ≡ Some t → IsPartAt c i (path ++ (1 + n) ∷ []) t
       at n t e =
-          let there : Stands c i (path ++ suc n ∷ []) t = step-down (member c.literals i) path (suc n) (App f args) s ∙ (ap (λ ts. slice_get ts n) (args_of-App f args) ∙ e) in
-          subst (λ m. Stands c i (path ++ m ∷ []) t) (omega arith) there
+          let there : IsPartAt c i (path ++ suc n ∷ []) t = step-down (member c.literals i) path (suc n) (App f args) s ∙ (ap (λ ts. slice_get ts n) (args_of-App f args) ∙ e) in
+          subst (λ m. IsPartAt c i (path ++ m ∷ []) t) (omega arith) there
 
 pub parts-stand : (c : Clause) (i : ℕ) (l : Literal) → member c.literals i ≡ Some l → AreArguments c i [] 1 (parts_of l.atom)
 parts-stand c i l is = arguments-from c i [] 1 (parts_of l.atom) at
   where
-    at : (n : ℕ) (t : Term) → slice_get (parts_of l.atom) n ≡ Some t → Stands c i ((1 + n) ∷ []) t
+    at : (n : ℕ) (t : Term) → slice_get (parts_of l.atom) n ≡ Some t → IsPartAt c i ((1 + n) ∷ []) t
     at n t e =
-        let there : Stands c i (suc n ∷ []) t = ap (part_at (suc n ∷ [])) is ∙ (whole (slice_get (parts_of l.atom) n) ∙ e) in
+        let there : IsPartAt c i (suc n ∷ []) t = ap (part_at (suc n ∷ [])) is ∙ (whole (slice_get (parts_of l.atom) n) ∙ e) in
         let one : suc n ≡ 1 + n = omega arith in
-        subst (λ m. Stands c i (m ∷ []) t) (one) there
+        subst (λ m. IsPartAt c i (m ∷ []) t) (one) there
 
 pub relation-stands : (c : Clause) (i : ℕ) (l : Literal) (r : SymId) (args ts : List Term) → member c.literals i ≡ Some l → l.atom ≡ Rel r args → ts ≡ args → AreArguments c i [] 1 ts
 relation-stands c i l r args ts is atom all = subst (AreArguments c i [] 1) (ap parts_of atom ∙ sym all) (parts-stand c i l is)

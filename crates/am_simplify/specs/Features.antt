@@ -15,8 +15,8 @@ use Rattle.am_term.specs.declared.term.Term.TheVariants.{Var, In, App}
 use Rattle.am_clause.specs.declared.clause.Clause.{Clause}
 
 -- a place with one number more on the way to it
-unfoldable pub mix : ℕ → ℕ → ℕ
-mix place n = (place + n) % 2 ^ 64 * 11400714819323198485 % 2 ^ 64
+unfoldable pub place_with : ℕ → ℕ → ℕ
+place_with place n = (place + n) % 2 ^ 64 * 11400714819323198485 % 2 ^ 64
 
 -- one bit for a place
 unfoldable pub bit_of : ℕ → ℕ
@@ -27,18 +27,18 @@ abbrev pub Featuring : Type 0
 Featuring = ℕ → ℕ
 
 -- those of some neighbours, of which the first stands at the place
-abbrev pub joined : ℕ → List Featuring → ℕ
-joined place [] = 0
-joined place (p ∷ ps) = bit_or (p place) (joined (mix place 3) ps)
+abbrev pub joined_features : ℕ → List Featuring → ℕ
+joined_features place [] = 0
+joined_features place (p ∷ ps) = bit_or (p place) (joined_features (place_with place 3) ps)
 
 -- the place's own, and those of what is below it
 abbrev pub headed : ℕ → List Featuring → ℕ
-headed place ps = bit_or (bit_of place) (joined place ps)
+headed place ps = bit_or (bit_of place) (joined_features place ps)
 
 abbrev pub features_step : Term-F Featuring → Featuring
 features_step (Term-F.Var n s) place = 0
-features_step (Term-F.In k) place = bit_of (mix (mix place 1) k)
-features_step (Term-F.App f below) place = headed (mix (mix place 2) f.0) below
+features_step (Term-F.In k) place = bit_of (place_with (place_with place 1) k)
+features_step (Term-F.App f below) place = headed (place_with (place_with place 2) f.0) below
 
 -- the features of a term that stands at a place: a variable has none
 unfoldable pub features : Term → Featuring
@@ -51,11 +51,11 @@ pub features-Var : (n : ℕ) (s : SortId) (place : ℕ) → features (Var n s) p
 unfolding features
 features-Var n s place = ap (λ (p : Featuring). p place) (fold-Var Featuring features_step n s)
 
-pub features-In : (k place : ℕ) → features (In k) place ≡ bit_of (mix (mix place 1) k)
+pub features-In : (k place : ℕ) → features (In k) place ≡ bit_of (place_with (place_with place 1) k)
 unfolding features
 features-In k place = ap (λ (p : Featuring). p place) (fold-In Featuring features_step k)
 
-pub features-App : (f : SymId) (args : List Term) (place : ℕ) → features (App f args) place ≡ headed_features (mix (mix place 2) f.0) args
+pub features-App : (f : SymId) (args : List Term) (place : ℕ) → features (App f args) place ≡ headed_features (place_with (place_with place 2) f.0) args
 unfolding features
 features-App f args place = ap (λ (p : Featuring). p place) (fold-App Featuring features_step f args)
 
@@ -66,8 +66,8 @@ abbrev pub sign_place : Bool → ℕ
 sign_place positive = if positive then 5 else 7
 
 abbrev pub atom_features : ℕ → Atom → ℕ
-atom_features place (Rel r args) = headed_features (mix (mix place 4) r.0) args
-atom_features place (Eq left right) = headed_features (mix place 6) (left ∷ right ∷ [])
+atom_features place (Rel r args) = headed_features (place_with (place_with place 4) r.0) args
+atom_features place (Eq left right) = headed_features (place_with place 6) (left ∷ right ∷ [])
 
 abbrev pub literal_features : Literal → ℕ
 literal_features l = atom_features (sign_place l.positive) l.atom

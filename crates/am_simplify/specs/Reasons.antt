@@ -15,7 +15,7 @@ use Rattle.am_clause.specs.Final.{is_computable_symbol}
 use Rattle.am_clause.specs.Size.{clause_weight}
 use Rattle.am_clause.specs.Tautology.{tautology}
 use Rattle.am_clause.specs.declared.clause.Clause.{Clause}
-use Rattle.am_rules.specs.Conclusions.{closed}
+use Rattle.am_rules.specs.Conclusions.{closed_off}
 use Rattle.am_simplify.specs.Numbering.{or_else}
 use Rattle.am_simplify.specs.Subsuming.{subsumed_by}
 use Rattle.am_simplify.specs.declared.reason.Reason.{Reason}
@@ -71,7 +71,7 @@ is_uncomputed sig (Some ts) = list_any (has_abstract sig) ts
 
 -- no literals, an answer, and nothing closes it
 abbrev pub is_open : Signature → List SortId → Clause → Bool
-is_open sig ins c = length c.literals == 0 && (is_some c.answer && is_none (closed sig ins c))
+is_open sig ins c = length c.literals == 0 && (is_some c.answer && is_none (closed_off sig ins c))
 
 -- of a row its number and its clause
 abbrev pub NumberedClause : Type 0

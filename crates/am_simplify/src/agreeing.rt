@@ -3,7 +3,7 @@ ghost use Rattle.std.specs.Prelude.{◌≡◌};
 ghost use Rattle.am_clause.specs.Rules.{side_of};
 ghost use Rattle.am_term.specs.Same.{is_in};
 ghost use Rattle.am_term.specs.declared.term.Term.TheViews.{out-Term};
-ghost use Rattle.am_simplify.specs.Agreement.{agree, agree_all, side_agrees as is_side_agreeing, unit_agrees as is_unit_agreeing};
+ghost use Rattle.am_simplify.specs.Agreement.{term_agrees, agree_all, side_agrees as is_side_agreeing, unit_agrees as is_unit_agreeing};
 
 use crate::step::Unit;
 use am_clause::Side;
@@ -36,7 +36,7 @@ fn side_agrees(side: Side, atom: &Atom, part: &Term) -> bool
 #[cycle(agreeing)]
 #[tactic(auto, using(crate::proofs::Unmatched::agreeing))]
 fn agrees(pattern: &Term, term: &Term) -> bool
-    ensures { result ≡ agree pattern.now term.now }
+    ensures { result ≡ term_agrees pattern.now term.now }
 {
     match pattern {
         Term::Var { .. } => true,

@@ -1,6 +1,6 @@
 //! Numbers that tell of most clauses that they don't subsume another.
 ghost use Rattle.std.specs.Prelude.{◌≡◌};
-ghost use Rattle.am_simplify.specs.Features.{answer_features as features_of_answer, are_within, atom_features as features_of_atom, bit_of as is_bit_of, clause_features, features as features_of_term, headed_features as are_headed_features, literal_features as features_of_literal, literals_features as features_of_literals, mix as mixed, sign_place as is_sign_place};
+ghost use Rattle.am_simplify.specs.Features.{answer_features as features_of_answer, are_within, atom_features as features_of_atom, bit_of as is_bit_of, clause_features, features as features_of_term, headed_features as are_headed_features, literal_features as features_of_literal, literals_features as features_of_literals, place_with as mixed, sign_place as is_sign_place};
 
 use am_clause::Clause;
 use am_term::{Atom, Literal, Term};
@@ -100,7 +100,7 @@ fn headed_features(place: u64, terms: &[Term]) -> u64
 }
 
 // A place with one number more on the way to it.
-#[tactic(auto, unfolding(crate::specs::Features::mix))]
+#[tactic(auto, unfolding(crate::specs::Features::place_with))]
 fn mix(place: u64, number: u64) -> u64
     ensures { result ≡ mixed place number }
 {

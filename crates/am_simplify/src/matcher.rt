@@ -14,8 +14,8 @@ use std::marker::Model;
 /// has reserved.
 #[derive(Drop)]
 pub struct Matcher {
-    // Bindings are held in frames on the stack while terms are trees. Over shared terms, which are numbers, these places
-    // hold them: one for each variable.
+    // Bindings are held in frames on the stack while terms are trees. Over shared terms, which are numbers, these
+    // places hold them: one for each variable.
     places: Vec<u32>,
 }
 
@@ -41,7 +41,8 @@ impl Matcher {
     /// and its answer that of `c`. Takes no memory.
     pub fn subsumes(&mut self, ctx: &Ctx, d: &Clause, c: &Clause) -> bool
         ensures test { result ≡ subsumed_by ctx.now.sig.now ctx.now.ins.now d.now c.now }
-        ensures meaning { IsNumbered d.now → IsTrue (is_sorted_clause ctx.now.sig.now ctx.now.ins.now d.now) → (IsTrue result ↔ Subsumes ctx.now.sig.now ctx.now.ins.now d.now c.now) }
+        ensures meaning { IsNumbered d.now → IsTrue (is_sorted_clause ctx.now.sig.now ctx.now.ins.now d.now)
+            → (IsTrue result ↔ Subsumes ctx.now.sig.now ctx.now.ins.now d.now c.now) }
         ensures kept { self.new ≡ self.old }
     {
         subsumes(ctx, d, c)

@@ -4,7 +4,7 @@ ghost use Rattle.am_clause.specs.Tautology.{equal_sides};
 ghost use Rattle.am_simplify.specs.Frames.{path_of};
 ghost use Rattle.am_simplify.specs.Numbering.{find_map};
 ghost use Rattle.am_simplify.specs.Places.{places as places_of, places_all};
-ghost use Rattle.am_simplify.specs.Standing.{AreArguments, Stands};
+ghost use Rattle.am_simplify.specs.Standing.{AreArguments, IsPartAt};
 ghost use Rattle.am_simplify.specs.NormalStep.{first_to_go as is_first_to_go, rewrite_at, rewrite_first as is_first_rewriting, rewrite_in, rewrite_with as is_rewriting_with, step_by};
 
 use crate::agreeing::unit_agrees;
@@ -119,7 +119,8 @@ fn rewrite_sides(
     right: &Term,
 ) -> Result<Option<RewriteMade>, NoMemory>
     requires { AreArguments clause.now i [] 1 (left.now ∷ right.now ∷ []) }
-    ensures { IfOk result (λ o. o ≡ find_map (rewrite_at ctx.now.sig.now ctx.now.ins.now units.now clause.now i) (places_all 1 (left.now ∷ right.now ∷ []) [])) }
+    ensures { IfOk result (λ o. o ≡ find_map (rewrite_at ctx.now.sig.now ctx.now.ins.now units.now clause.now i)
+        (places_all 1 (left.now ∷ right.now ∷ []) [])) }
 {
     let first = Path::Below {
         k: 1,
@@ -147,8 +148,9 @@ fn rewrite_term(
     term: &Term,
     path: &Path,
 ) -> Result<Option<RewriteMade>, NoMemory>
-    requires { Stands clause.now i (path_of path.now) term.now }
-    ensures { IfOk result (λ o. o ≡ find_map (rewrite_at ctx.now.sig.now ctx.now.ins.now units.now clause.now i) (places_of term.now (path_of path.now))) }
+    requires { IsPartAt clause.now i (path_of path.now) term.now }
+    ensures { IfOk result (λ o. o ≡ find_map (rewrite_at ctx.now.sig.now ctx.now.ins.now units.now clause.now i)
+        (places_of term.now (path_of path.now))) }
 {
     match term {
         Term::Var { .. } => Ok(None),
@@ -175,7 +177,8 @@ fn rewrite_all(
     path: &Path,
 ) -> Result<Option<RewriteMade>, NoMemory>
     requires { AreArguments clause.now i (path_of path.now) 1 terms.now }
-    ensures { IfOk result (λ o. o ≡ find_map (rewrite_at ctx.now.sig.now ctx.now.ins.now units.now clause.now i) (places_all 1 terms.now (path_of path.now))) }
+    ensures { IfOk result (λ o. o ≡ find_map (rewrite_at ctx.now.sig.now ctx.now.ins.now units.now clause.now i)
+        (places_all 1 terms.now (path_of path.now))) }
 {
     let mut rest = terms;
     let mut k = 1;
@@ -200,8 +203,9 @@ fn rewrite_place(
     part: &Term,
     path: &Path,
 ) -> Result<Option<RewriteMade>, NoMemory>
-    requires { Stands clause.now i (path_of path.now) part.now }
-    ensures { IfOk result (λ o. o ≡ rewrite_at ctx.now.sig.now ctx.now.ins.now units.now clause.now i (path_of path.now)) }
+    requires { IsPartAt clause.now i (path_of path.now) part.now }
+    ensures { IfOk result (λ o. o ≡ rewrite_at ctx.now.sig.now ctx.now.ins.now units.now clause.now i
+        (path_of path.now)) }
 {
     let mut rest = units;
     while let [unit, behind @ ..] = rest {
@@ -223,8 +227,9 @@ fn rewrite_with(
     part: &Term,
     path: &Path,
 ) -> Result<Option<RewriteMade>, NoMemory>
-    requires { Stands clause.now i (path_of path.now) part.now }
-    ensures { IfOk result (λ o. o ≡ is_rewriting_with ctx.now.sig.now ctx.now.ins.now clause.now i (path_of path.now) unit.now) }
+    requires { IsPartAt clause.now i (path_of path.now) part.now }
+    ensures { IfOk result (λ o. o ≡ is_rewriting_with ctx.now.sig.now ctx.now.ins.now clause.now i
+        (path_of path.now) unit.now) }
 {
     if !unit_agrees(unit, part) {
         return Ok(None);

@@ -13,7 +13,8 @@ use std::marker::Model;
 // One more unit, at its place by number.
 #[tactic(auto, using(crate::proofs::Inserted::inserting))]
 fn put(units: &mut Vec<Unit>, unit: Unit) -> Result<(), NoMemory>
-    ensures { MatchResult result (λ _. units.new.items ≡ with_unit unit units.old.items) (λ _. units.new.items ≡ units.old.items) }
+    ensures { MatchResult result (λ _. units.new.items ≡ with_unit unit units.old.items) (λ _.
+        units.new.items ≡ units.old.items) }
 {
     let place = place_of(units.as_slice(), unit.row);
     if units.insert(place, unit).is_err() {
@@ -77,7 +78,8 @@ impl Rewriter {
         row: u32,
         clause: &Clause,
     ) -> Result<(), NoMemory>
-        ensures { MatchResult result (λ _. self.new ≡ with_units (unit_of ctx.now.sig.now (row, clause.now)) self.old) (λ _. self.new ≡ self.old) }
+        ensures { MatchResult result (λ _.
+            self.new ≡ with_units (unit_of ctx.now.sig.now (row, clause.now)) self.old) (λ _. self.new ≡ self.old) }
     {
         let Some(side) = unit_side(ctx.sig, clause) else {
             return Ok(());

@@ -18,7 +18,8 @@ use std::slice::from_ref;
 /// its answer that of `c`. Takes no memory.
 pub fn subsumes(ctx: &Ctx, d: &Clause, c: &Clause) -> bool
     ensures test { result ≡ subsumed_by ctx.now.sig.now ctx.now.ins.now d.now c.now }
-    ensures meaning { IsNumbered d.now → IsTrue (is_sorted_clause ctx.now.sig.now ctx.now.ins.now d.now) → (IsTrue result ↔ Subsumes ctx.now.sig.now ctx.now.ins.now d.now c.now) }
+    ensures meaning { IsNumbered d.now → IsTrue (is_sorted_clause ctx.now.sig.now ctx.now.ins.now d.now)
+        → (IsTrue result ↔ Subsumes ctx.now.sig.now ctx.now.ins.now d.now c.now) }
 {
     covers_all(ctx, d, c)
 }
@@ -71,7 +72,9 @@ fn run(
     all: &[Literal],
     bound: &Bound,
 ) -> bool
-    ensures { result ≡ meets (match_terms ctx.now.sig.now ctx.now.ins.now patterns.now terms.now (bindings bound.now)) (after_tasks ctx.now.sig.now ctx.now.ins.now (tasks todo.now) (covers ctx.now.sig.now ctx.now.ins.now literals.now all.now)) }
+    ensures { result ≡ meets (match_terms ctx.now.sig.now ctx.now.ins.now patterns.now terms.now (bindings bound.now))
+        (after_tasks ctx.now.sig.now ctx.now.ins.now (tasks todo.now)
+        (covers ctx.now.sig.now ctx.now.ins.now literals.now all.now)) }
 {
     match patterns {
         [] => {
@@ -170,7 +173,8 @@ fn cover_by(
     all: &[Literal],
     bound: &Bound,
 ) -> bool
-    ensures { result ≡ meets (match_literal ctx.now.sig.now ctx.now.ins.now literal.now other.now (bindings bound.now)) (covers ctx.now.sig.now ctx.now.ins.now later.now all.now) }
+    ensures { result ≡ meets (match_literal ctx.now.sig.now ctx.now.ins.now literal.now other.now (bindings bound.now))
+        (covers ctx.now.sig.now ctx.now.ins.now later.now all.now) }
 {
     if literal.positive != other.positive {
         return false;

@@ -27,7 +27,7 @@ use Rattle.am_syntax.specs.Fold.{fold-Alone, fold-Headed, para-Alone, para-Heade
 use Rattle.am_syntax.specs.FoldFormula.{fold-Atom, fold-Not, fold-And, fold-Or, fold-Implies, fold-Iff, fold-Quantified}
 use Rattle.am_syntax.specs.Shapes.{may_stand}
 use Rattle.am_syntax.specs.Forms.{is_some_list, spellable_step, is_spellable, is_spellable_atom, spellable_formula_step, is_spellable_formula}
-use Rattle.am_syntax.specs.Scopes.{Scope, standing_of, symbol_of, result_of, args_of, alone_sort}
+use Rattle.am_syntax.specs.Scopes.{Scope, standing_of, symbol_of, result_of, argument_sorts_of, alone_sort}
 use Rattle.am_syntax.specs.Flaws.{unknown_step, has_unknown_name, sort_at, written_sort, written_sorts, some_misfit, is_relation, is_lone_relation, parts_terms, parts_flaws, bad_sort_step, has_bad_sort, is_miscounted, is_lone_function, bad_arity_step, has_bad_arity, is_unbound, unbound_step, has_unbound, atom_has, some_atom_step, formula_has, quantifier_step, has_quantifier}
 use Rattle.am_syntax.specs.Meaning.{named_symbol, alone_term, meaning_step, term_meaning, atom_meaning, formula_meaning_step, formula_meaning}
 use Rattle.am_syntax.specs.Occurring.{occurs_in_atom, occurs_in_step, occurs_in_formula}
@@ -66,12 +66,12 @@ module _ (s : Scope) where
   unfolding has_bad_sort
   has_bad_sort-Alone w = para-Alone Bool (bad_sort_step s) w
 
-  pub has_bad_sort-Headed : (h : List ℕ) (args : List WrittenTerm) → has_bad_sort s (Headed h args) ≡ (is_relation (symbol_of s h) || (some_misfit s.parents (written_sorts s args) (args_of (symbol_of s h)) || list_any (has_bad_sort s) args))
+  pub has_bad_sort-Headed : (h : List ℕ) (args : List WrittenTerm) → has_bad_sort s (Headed h args) ≡ (is_relation (symbol_of s h) || (some_misfit s.parents (written_sorts s args) (argument_sorts_of (symbol_of s h)) || list_any (has_bad_sort s) args))
   unfolding has_bad_sort
   has_bad_sort-Headed h args =
       para-Headed Bool (bad_sort_step s) h args
-      ∙ ap (λ ts. is_relation (symbol_of s h) || (some_misfit s.parents (written_sorts s ts) (args_of (symbol_of s h)) || list_any (λ b. b) (parts_flaws (map (λ y. (y, has_bad_sort s y)) args)))) (parts_terms-of args)
-      ∙ ap (λ b. is_relation (symbol_of s h) || (some_misfit s.parents (written_sorts s args) (args_of (symbol_of s h)) || b)) (parts_flaws-of args)
+      ∙ ap (λ ts. is_relation (symbol_of s h) || (some_misfit s.parents (written_sorts s ts) (argument_sorts_of (symbol_of s h)) || list_any (λ b. b) (parts_flaws (map (λ y. (y, has_bad_sort s y)) args)))) (parts_terms-of args)
+      ∙ ap (λ b. is_relation (symbol_of s h) || (some_misfit s.parents (written_sorts s args) (argument_sorts_of (symbol_of s h)) || b)) (parts_flaws-of args)
 
   pub has_bad_arity-Alone : (w : List ℕ) → has_bad_arity s (Alone w) ≡ is_lone_function s (standing_of w s.bound) w
   unfolding has_bad_arity

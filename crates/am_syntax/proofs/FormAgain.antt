@@ -2,10 +2,11 @@
 use Rattle.std.proofs.Common.{◌≡◌, ℕ, ◌+◌, ◌≤◌, max, Bool, true, false, List, [], ◌∷◌, map, Option, Some, None, refl, sym, ap, subst, ◌∙◌, arith}
 use Rattle.std.specs.Prelude.{codes, if◌then◌else◌}
 use Rattle.am_term.specs.Names.{is_name}
+use Rattle.am_term.specs.Span.{greatest}
 use Rattle.am_text.specs.declared.form.Form.{Form}
 use Rattle.am_text.specs.declared.form.FormNode.{FormNode}
 use Rattle.am_text.specs.declared.form.FormNode.TheVariants as node
-use Rattle.am_text.specs.Grammar.{greatest, height, node_height, highest}
+use Rattle.am_text.specs.Grammar.{height, node_height, highest}
 use Rattle.am_text.specs.Spelling.{bare, node_bare, is_word, is_writable, node_writable}
 use Rattle.am_text.proofs.Folds.{height-Word, height-List, height-form, writable-List, writable-form, bare-Word, bare-Number, bare-Text, bare-List, bare-form}
 use Rattle.am_text.proofs.FormInduct.{form_induct, node_induct}

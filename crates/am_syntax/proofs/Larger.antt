@@ -1,5 +1,5 @@
 -- In a scope that extends another, what has its names there is the same.
-use Rattle.std.proofs.Common.{◌≡◌, ◌∙◌, ◌||◌, ℕ, false, not, refl, sym, ap, List, [], ◌∷◌, map, Option, Some, None}
+use Rattle.std.proofs.Common.{◌≡◌, ◌∙◌, ◌||◌, ℕ, false, refl, sym, ap, List, [], ◌∷◌, map, Option, Some, None}
 use Rattle.std.specs.Prelude.{is_none, length}
 use Rattle.std.specs.List.{list_any}
 use Rattle.am_term.specs.declared.id.SortId.{SortId}
@@ -11,12 +11,13 @@ use Rattle.am_syntax.specs.declared.scope.Standing.TheVariants.{Variable, Input,
 use Rattle.am_syntax.specs.declared.written.WrittenTerm.{WrittenTerm}
 use Rattle.am_syntax.specs.declared.written.WrittenTerm.TheVariants.{Alone, Headed}
 use Rattle.am_syntax.specs.Induct.{written_term_induct, written_terms_induct}
-use Rattle.am_syntax.specs.Scopes.{Scope, standing_of, symbol_at, symbol_of, result_of, args_of, alone_sort_by}
+use Rattle.am_syntax.specs.Scopes.{Scope, standing_of, symbol_at, symbol_of, result_of, argument_sorts_of, alone_sort_by}
 use Rattle.am_syntax.specs.Flaws.{has_unknown_name, has_bad_sort, has_bad_arity, has_unbound, term_has, written_sort, written_sorts, misfits, some_misfit, is_relation, is_lone_relation, is_miscounted, is_lone_function, is_unbound}
 use Rattle.am_syntax.specs.Meaning.{symbol_id, named_symbol, alone_term, term_meaning}
 use Rattle.am_syntax.specs.Laws.{Extends, IsSameIn}
 use Rattle.am_syntax.proofs.Among.{none_left, none_right}
 use Rattle.am_syntax.proofs.Known.{known, known-symbol}
+use Rattle.am_syntax.proofs.ScopeSorts.{sort-in, misfits-kept}
 use Rattle.am_syntax.proofs.Equations.{written_sort-Alone, written_sort-Headed, has_unknown_name-Alone, has_unknown_name-Headed, has_bad_sort-Alone, has_bad_sort-Headed, has_bad_arity-Alone, has_bad_arity-Headed, has_unbound-Alone, has_unbound-Headed, term_meaning-Alone, term_meaning-Headed}
 
 -- terms have the same flaws, sorts and meanings in two scopes
@@ -34,16 +35,12 @@ module _ (s r : Scope) (x : Extends s r) where
   pub named-kept : (w : List ℕ) → is_none (symbol_of s w) ≡ false → named_symbol r w ≡ named_symbol s w
   named-kept w e = let k = known s w e in ap symbol_id (x.names w k.number k.found ∙ sym k.found)
 
-  misfits-kept : (o : Option SortId) (p : SortId) → misfits r.parents o p ≡ misfits s.parents o p
-  misfits-kept None p = refl
-  misfits-kept (Some a) p = ap not (sym (x.fits a p))
-
-  pub some_misfit-kept : (os : List (Option SortId)) (ps : List SortId) → some_misfit r.parents os ps ≡ some_misfit s.parents os ps
+  pub some_misfit-kept : (ts : List WrittenTerm) (ps : List SortId) → some_misfit r.parents (written_sorts s ts) ps ≡ some_misfit s.parents (written_sorts s ts) ps
   some_misfit-kept [] ps = refl
-  some_misfit-kept (o ∷ os) [] = refl
-  some_misfit-kept (o ∷ os) (p ∷ ps) =
-      ap (λ b. b || some_misfit r.parents os ps) (misfits-kept o p)
-      ∙ ap (λ b. misfits s.parents o p || b) (some_misfit-kept os ps)
+  some_misfit-kept (t ∷ ts) [] = refl
+  some_misfit-kept (t ∷ ts) (p ∷ ps) =
+      ap (λ b. b || some_misfit r.parents (written_sorts s ts) ps) (misfits-kept s r x (written_sort s t) p (sort-in s r x t))
+      ∙ ap (λ b. misfits s.parents (written_sort s t) p || b) (some_misfit-kept ts ps)
 
   -- ---- a name alone, by what it stands for
   unbound-at : (w : List ℕ) (o : Option Standing) → is_unbound o (symbol_of s w) ≡ false → is_unbound o (symbol_of r w) ≡ is_unbound o (symbol_of s w)
@@ -90,10 +87,10 @@ module _ (s r : Scope) (x : Extends s r) where
       ∙ sym (has_unknown_name-Headed s h args)
   flaws-Headed h args same k BadSort =
       has_bad_sort-Headed r h args
-      ∙ ap (λ y. is_relation y || (some_misfit r.parents (written_sorts r args) (args_of y) || list_any (has_bad_sort r) args)) same
-      ∙ ap (λ os. is_relation (symbol_of s h) || (some_misfit r.parents os (args_of (symbol_of s h)) || list_any (has_bad_sort r) args)) k.sorts
-      ∙ ap (λ b. is_relation (symbol_of s h) || (b || list_any (has_bad_sort r) args)) (some_misfit-kept (written_sorts s args) (args_of (symbol_of s h)))
-      ∙ ap (λ b. is_relation (symbol_of s h) || (some_misfit s.parents (written_sorts s args) (args_of (symbol_of s h)) || b)) (k.flaws BadSort)
+      ∙ ap (λ y. is_relation y || (some_misfit r.parents (written_sorts r args) (argument_sorts_of y) || list_any (has_bad_sort r) args)) same
+      ∙ ap (λ os. is_relation (symbol_of s h) || (some_misfit r.parents os (argument_sorts_of (symbol_of s h)) || list_any (has_bad_sort r) args)) k.sorts
+      ∙ ap (λ b. is_relation (symbol_of s h) || (b || list_any (has_bad_sort r) args)) (some_misfit-kept args (argument_sorts_of (symbol_of s h)))
+      ∙ ap (λ b. is_relation (symbol_of s h) || (some_misfit s.parents (written_sorts s args) (argument_sorts_of (symbol_of s h)) || b)) (k.flaws BadSort)
       ∙ sym (has_bad_sort-Headed s h args)
   flaws-Headed h args same k BadArity =
       has_bad_arity-Headed r h args

@@ -1,8 +1,7 @@
 -- In a scope that extends another, atoms and formulas that have their names there are the same.
-use Rattle.std.proofs.Common.{◌≡◌, ◌∙◌, ◌||◌, false, not, refl, sym, ap, List, [], ◌∷◌, map, Option, Some, None, ℕ}
+use Rattle.std.proofs.Common.{◌≡◌, ◌∙◌, ◌||◌, false, refl, sym, ap, List, [], ◌∷◌, map, ℕ}
 use Rattle.std.specs.Prelude.{is_none, length}
 use Rattle.std.specs.List.{list_any}
-use Rattle.am_term.specs.declared.id.SortId.{SortId}
 use Rattle.am_term.specs.declared.term.Atom.TheVariants.{Rel, Eq}
 use Rattle.am_term.specs.declared.term.Formula.TheVariants as formula
 use Rattle.am_syntax.specs.declared.scope.Flaw.{Flaw}
@@ -13,12 +12,13 @@ use Rattle.am_syntax.specs.declared.written.WrittenAtom.TheVariants.{Equation, R
 use Rattle.am_syntax.specs.declared.written.WrittenFormula.{WrittenFormula}
 use Rattle.am_syntax.specs.declared.written.WrittenFormula.TheVariants.{Atom as Atomic, Not, And, Or, Implies, Iff, Quantified}
 use Rattle.am_syntax.specs.InductFormula.{written_formula_induct}
-use Rattle.am_syntax.specs.Scopes.{Scope, symbol_of, args_of}
+use Rattle.am_syntax.specs.Scopes.{Scope, symbol_of, argument_sorts_of}
 use Rattle.am_syntax.specs.Flaws.{has_unknown_name, has_unbound, term_has, written_sort, written_sorts, some_misfit, is_function, is_miscounted, are_apart, relation_has, equation_has, atom_has, formula_has}
 use Rattle.am_syntax.specs.Meaning.{named_symbol, term_meaning, formula_meaning}
 use Rattle.am_syntax.specs.Laws.{Extends, IsSameIn, IsSameAtomIn, IsSameFormulaIn}
 use Rattle.am_syntax.proofs.Among.{none_left, none_right}
 use Rattle.am_syntax.proofs.Equations.{formula_has-Atom, formula_has-Not, formula_has-And, formula_has-Or, formula_has-Implies, formula_has-Iff, formula_has-Quantified, formula_meaning-Atom, formula_meaning-Not, formula_meaning-And, formula_meaning-Or, formula_meaning-Implies, formula_meaning-Iff, formula_meaning-Quantified}
+use Rattle.am_syntax.proofs.ScopeSorts.{sort-in, apart-kept}
 use Rattle.am_syntax.proofs.Larger.{AreSameIn, symbol-kept, named-kept, some_misfit-kept, term-kept, terms-kept}
 
 -- formulas have the same flaws and meanings in two scopes
@@ -28,17 +28,12 @@ pub record AreSameFormulasIn (s r : Scope) (fs : List WrittenFormula) : Type 0 w
 
 module _ (s r : Scope) (x : Extends s r) where
   -- ---- equations
-  apart-kept : (a b : Option SortId) → are_apart r.parents a b ≡ are_apart s.parents a b
-  apart-kept None b = refl
-  apart-kept (Some a) None = refl
-  apart-kept (Some a) (Some b) = ap not (sym (x.akin a b))
-
   equation-kept : (left right : WrittenTerm) → IsSameIn s r left → IsSameIn s r right → (flaw : Flaw) → equation_has r flaw left right ≡ equation_has s flaw left right
   equation-kept left right k l UnknownName = refl
   equation-kept left right k l BadSort =
       ap (λ o. are_apart r.parents o (written_sort r right)) k.sort
       ∙ ap (λ o. are_apart r.parents (written_sort s left) o) l.sort
-      ∙ apart-kept (written_sort s left) (written_sort s right)
+      ∙ apart-kept s r x (written_sort s left) (written_sort s right) (sort-in s r x left) (sort-in s r x right)
   equation-kept left right k l BadArity = refl
   equation-kept left right k l Unbound = refl
 
@@ -55,9 +50,9 @@ module _ (s r : Scope) (x : Extends s r) where
   relation-kept : (n : List ℕ) (args : List WrittenTerm) → symbol_of r n ≡ symbol_of s n → AreSameIn s r args → (flaw : Flaw) → relation_has r flaw n args ≡ relation_has s flaw n args
   relation-kept n args same k UnknownName = ap is_none same
   relation-kept n args same k BadSort =
-      ap (λ y. is_function y || some_misfit r.parents (written_sorts r args) (args_of y)) same
-      ∙ ap (λ os. is_function (symbol_of s n) || some_misfit r.parents os (args_of (symbol_of s n))) k.sorts
-      ∙ ap (λ b. is_function (symbol_of s n) || b) (some_misfit-kept s r x (written_sorts s args) (args_of (symbol_of s n)))
+      ap (λ y. is_function y || some_misfit r.parents (written_sorts r args) (argument_sorts_of y)) same
+      ∙ ap (λ os. is_function (symbol_of s n) || some_misfit r.parents os (argument_sorts_of (symbol_of s n))) k.sorts
+      ∙ ap (λ b. is_function (symbol_of s n) || b) (some_misfit-kept s r x args (argument_sorts_of (symbol_of s n)))
   relation-kept n args same k BadArity = ap (λ y. is_miscounted y (length args)) same
   relation-kept n args same k Unbound = refl
 

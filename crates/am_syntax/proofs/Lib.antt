@@ -7,6 +7,7 @@ pub mod Known
 pub mod Larger
 pub mod LargerFormula
 pub mod Positions
+pub mod ScopeSorts
 pub mod ShapeEquations
 pub mod WellSorted
 pub mod WellSortedFormula

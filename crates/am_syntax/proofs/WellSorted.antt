@@ -17,7 +17,7 @@ use Rattle.am_syntax.specs.declared.scope.Standing.TheVariants.{Variable, Input,
 use Rattle.am_syntax.specs.declared.written.WrittenTerm.{WrittenTerm}
 use Rattle.am_syntax.specs.declared.written.WrittenTerm.TheVariants.{Alone, Headed}
 use Rattle.am_syntax.specs.Induct.{written_term_induct, written_terms_induct}
-use Rattle.am_syntax.specs.Scopes.{Scope, Profile, profile, standing_of, symbol_of, result_of, args_of, alone_sort_by}
+use Rattle.am_syntax.specs.Scopes.{Scope, Profile, profile, standing_of, symbol_of, result_of, argument_sorts_of, alone_sort_by}
 use Rattle.am_syntax.specs.Flaws.{has_unknown_name, has_bad_sort, has_bad_arity, term_has, written_sort, written_sorts, misfits, some_misfit, is_relation, is_lone_relation, is_miscounted, is_lone_function, is_unbound}
 use Rattle.am_syntax.specs.Meaning.{named_symbol, alone_term, term_meaning}
 use Rattle.am_syntax.specs.Laws.{MatchesSignature, IsFlawless, IsWellSorted}
@@ -153,7 +153,7 @@ module _ (s : Scope) (sig : Signature) (ins : List SortId) (m : MatchesSignature
 
   flawless-args : (h : List ℕ) (args : List WrittenTerm) → IsFlawless s (Headed h args) → (flaw : Flaw) → list_any (term_has s flaw) args ≡ false
   flawless-args h args f UnknownName = none_right (is_none (symbol_of s h)) (list_any (has_unknown_name s) args) (sym (has_unknown_name-Headed s h args) ∙ f UnknownName)
-  flawless-args h args f BadSort = none_right (some_misfit s.parents (written_sorts s args) (args_of (symbol_of s h))) (list_any (has_bad_sort s) args) (none_right (is_relation (symbol_of s h)) (some_misfit s.parents (written_sorts s args) (args_of (symbol_of s h)) || list_any (has_bad_sort s) args) (sym (has_bad_sort-Headed s h args) ∙ f BadSort))
+  flawless-args h args f BadSort = none_right (some_misfit s.parents (written_sorts s args) (argument_sorts_of (symbol_of s h))) (list_any (has_bad_sort s) args) (none_right (is_relation (symbol_of s h)) (some_misfit s.parents (written_sorts s args) (argument_sorts_of (symbol_of s h)) || list_any (has_bad_sort s) args) (sym (has_bad_sort-Headed s h args) ∙ f BadSort))
   flawless-args h args f BadArity = none_right (is_miscounted (symbol_of s h) (length args)) (list_any (has_bad_arity s) args) (sym (has_bad_arity-Headed s h args) ∙ f BadArity)
   flawless-args h args f Unbound = sym (has_unbound-Headed s h args) ∙ f Unbound
 
@@ -161,11 +161,11 @@ module _ (s : Scope) (sig : Signature) (ins : List SortId) (m : MatchesSignature
   sorted-Headed h args a f =
       let k = known s h (none_left (is_none (symbol_of s h)) (list_any (has_unknown_name s) args) (sym (has_unknown_name-Headed s h args) ∙ f UnknownName)) in
       let sorts = sym (has_bad_sort-Headed s h args) ∙ f BadSort in
-      let inner = none_right (is_relation (symbol_of s h)) (some_misfit s.parents (written_sorts s args) (args_of (symbol_of s h)) || list_any (has_bad_sort s) args) sorts in
+      let inner = none_right (is_relation (symbol_of s h)) (some_misfit s.parents (written_sorts s args) (argument_sorts_of (symbol_of s h)) || list_any (has_bad_sort s) args) sorts in
       sorted-head h args k
-      (ap is_relation (sym (known-symbol s h k)) ∙ none_left (is_relation (symbol_of s h)) (some_misfit s.parents (written_sorts s args) (args_of (symbol_of s h)) || list_any (has_bad_sort s) args) sorts)
+      (ap is_relation (sym (known-symbol s h k)) ∙ none_left (is_relation (symbol_of s h)) (some_misfit s.parents (written_sorts s args) (argument_sorts_of (symbol_of s h)) || list_any (has_bad_sort s) args) sorts)
       (ap (λ y. is_miscounted y (length args)) (sym (known-symbol s h k)) ∙ none_left (is_miscounted (symbol_of s h) (length args)) (list_any (has_bad_arity s) args) (sym (has_bad_arity-Headed s h args) ∙ f BadArity))
-      (ap (λ y. some_misfit s.parents (written_sorts s args) (args_of y)) (sym (known-symbol s h k)) ∙ none_left (some_misfit s.parents (written_sorts s args) (args_of (symbol_of s h))) (list_any (has_bad_sort s) args) inner)
+      (ap (λ y. some_misfit s.parents (written_sorts s args) (argument_sorts_of y)) (sym (known-symbol s h k)) ∙ none_left (some_misfit s.parents (written_sorts s args) (argument_sorts_of (symbol_of s h))) (list_any (has_bad_sort s) args) inner)
       (a (flawless-args h args f))
 
   sorted-none : TermsSorted []

@@ -15,7 +15,7 @@ use Rattle.am_syntax.specs.declared.written.WrittenAtom.TheVariants.{Equation, R
 use Rattle.am_syntax.specs.declared.written.WrittenFormula.{WrittenFormula}
 use Rattle.am_syntax.specs.declared.written.WrittenFormula.TheVariants.{Atom as Atomic, Not, And, Or, Implies, Iff, Quantified}
 use Rattle.am_syntax.specs.InductFormula.{written_formula_induct}
-use Rattle.am_syntax.specs.Scopes.{Scope, symbol_of, args_of}
+use Rattle.am_syntax.specs.Scopes.{Scope, symbol_of, argument_sorts_of}
 use Rattle.am_syntax.specs.Flaws.{term_has, written_sort, written_sorts, some_misfit, is_function, is_miscounted, are_apart, relation_has, equation_has, formula_has, has_quantifier}
 use Rattle.am_syntax.specs.Meaning.{term_meaning, atom_meaning, formula_meaning}
 use Rattle.am_term.specs.SortedFormula.{is_sorted_formula}
@@ -57,9 +57,9 @@ module _ (s : Scope) (sig : Signature) (ins : List SortId) (m : MatchesSignature
       let flawless : (flaw : Flaw) → relation_has s flaw n args ≡ false = λ flaw. none_left (relation_has s flaw n args) (list_any (term_has s flaw) args) (f flaw) in
       let k = known s n (flawless UnknownName) in
       sorted-Relation n args k
-      (ap is_function (sym (known-symbol s n k)) ∙ none_left (is_function (symbol_of s n)) (some_misfit s.parents (written_sorts s args) (args_of (symbol_of s n))) (flawless BadSort))
+      (ap is_function (sym (known-symbol s n k)) ∙ none_left (is_function (symbol_of s n)) (some_misfit s.parents (written_sorts s args) (argument_sorts_of (symbol_of s n))) (flawless BadSort))
       (ap (λ y. is_miscounted y (length args)) (sym (known-symbol s n k)) ∙ flawless BadArity)
-      (ap (λ y. some_misfit s.parents (written_sorts s args) (args_of y)) (sym (known-symbol s n k)) ∙ none_right (is_function (symbol_of s n)) (some_misfit s.parents (written_sorts s args) (args_of (symbol_of s n))) (flawless BadSort))
+      (ap (λ y. some_misfit s.parents (written_sorts s args) (argument_sorts_of y)) (sym (known-symbol s n k)) ∙ none_right (is_function (symbol_of s n)) (some_misfit s.parents (written_sorts s args) (argument_sorts_of (symbol_of s n))) (flawless BadSort))
       (terms-sorted s sig ins m args (λ flaw. none_right (relation_has s flaw n args) (list_any (term_has s flaw) args) (f flaw)))
 
   -- ---- formulas

@@ -17,7 +17,7 @@ use Rattle.am_syntax.specs.declared.scope.Flaw.{Flaw}
 use Rattle.am_syntax.specs.declared.scope.Flaw.TheVariants.{UnknownName, BadSort, BadArity, Unbound}
 use Rattle.am_syntax.specs.declared.scope.Standing.{Standing}
 use Rattle.am_syntax.specs.declared.scope.Standing.TheVariants.{Variable, Input, Barred}
-use Rattle.am_syntax.specs.Scopes.{Scope, Profile, standing_of, symbol_of, result_of, args_of, alone_sort}
+use Rattle.am_syntax.specs.Scopes.{Scope, Profile, standing_of, symbol_of, result_of, argument_sorts_of, alone_sort}
 
 abbrev pub any_true : List Bool → Bool
 any_true bs = list_any (λ b. b) bs
@@ -77,7 +77,7 @@ parts_flaws = map (λ (e : WrittenTerm × Bool). e.1)
 
 abbrev pub bad_sort_step : Scope → WrittenTerm-F (WrittenTerm × Bool) → Bool
 bad_sort_step s (WrittenTerm-F.Alone w) = is_lone_relation s (standing_of w s.bound) w
-bad_sort_step s (WrittenTerm-F.Headed h es) = is_relation (symbol_of s h) || (some_misfit s.parents (written_sorts s (parts_terms es)) (args_of (symbol_of s h)) || any_true (parts_flaws es))
+bad_sort_step s (WrittenTerm-F.Headed h es) = is_relation (symbol_of s h) || (some_misfit s.parents (written_sorts s (parts_terms es)) (argument_sorts_of (symbol_of s h)) || any_true (parts_flaws es))
 
 -- a relation stands as a term in it, or a term's sort doesn't fit its place
 unfoldable pub has_bad_sort : Scope → WrittenTerm → Bool
@@ -133,7 +133,7 @@ are_apart parents (Some s) (Some r) = not (akin_in parents s r)
 -- what is wrong with a relation's name and its arguments, beside what is wrong inside them
 abbrev pub relation_has : Scope → Flaw → List ℕ → List WrittenTerm → Bool
 relation_has s UnknownName n args = is_none (symbol_of s n)
-relation_has s BadSort n args = is_function (symbol_of s n) || some_misfit s.parents (written_sorts s args) (args_of (symbol_of s n))
+relation_has s BadSort n args = is_function (symbol_of s n) || some_misfit s.parents (written_sorts s args) (argument_sorts_of (symbol_of s n))
 relation_has s BadArity n args = is_miscounted (symbol_of s n) (length args)
 relation_has s Unbound n args = false
 

@@ -1,19 +1,19 @@
 -- What holds of the flaws, the meaning and the names of all written terms, atoms and formulas.
-use Rattle.std.specs.Prelude.{◌≡◌, ◌<◌, ℕ, true, false, Some, List, [], map, length, slice_get, slice_index_or}
+use Rattle.std.specs.Prelude.{◌≡◌, ◌<◌, ◌++◌, ℕ, true, false, Option, Some, None, List, [], map, length, slice_get, slice_index_or}
 use Rattle.am_term.specs.declared.id.SortId.{SortId}
 use Rattle.am_term.specs.declared.signature.Signature.{Signature}
 use Rattle.am_term.specs.Sorting.{sort_of, is_sorted_atom}
-use Rattle.am_term.specs.Sorts.{fits_in, akin_in}
 use Rattle.am_term.specs.Variables.{occurs}
 use Rattle.am_syntax.specs.declared.scope.Flaw.{Flaw}
 use Rattle.am_syntax.specs.declared.scope.Flaw.TheVariants.{UnknownName, Unbound}
+use Rattle.am_syntax.specs.declared.scope.Standing.{Standing}
 use Rattle.am_syntax.specs.declared.scope.Standing.TheVariants.{Variable, Input}
 use Rattle.am_syntax.specs.declared.written.Words.{Words}
 use Rattle.am_syntax.specs.declared.written.WrittenTerm.{WrittenTerm}
 use Rattle.am_syntax.specs.declared.written.WrittenAtom.{WrittenAtom}
 use Rattle.am_syntax.specs.declared.written.WrittenFormula.{WrittenFormula}
 use Rattle.am_syntax.specs.Positions.{position_of}
-use Rattle.am_syntax.specs.Scopes.{Scope, Profile, profile, standing_of}
+use Rattle.am_syntax.specs.Scopes.{Scope, Profile, profile, standing_of, standing_sort}
 use Rattle.am_syntax.specs.Flaws.{has_unknown_name, has_unbound, written_sort, term_has, atom_has, formula_has, has_quantifier}
 use Rattle.am_syntax.specs.Forms.{is_spellable, is_spellable_atom, is_spellable_formula}
 use Rattle.am_syntax.specs.Meaning.{term_meaning, atom_meaning, formula_meaning}
@@ -84,14 +84,22 @@ FormulasAreWrittenBack = (s : Scope) (n : Naming) (words : Words) (f : WrittenFo
 
 -- ---- in a larger scope nothing changes
 
+-- the sort is one of the scope's
+abbrev pub IsSortIn : Scope → Option SortId → Type 0
+IsSortIn s None = Unit {0}
+IsSortIn s (Some a) = a.0 < length s.parents
+
 -- A scope has what another has: each name has the number that it has there, each number the symbol that
--- it has there, names stand for the same beside symbols, and sorts fit and are akin as they do there.
+-- it has there, names stand for the same beside symbols, and its sorts are those of the other and perhaps
+-- more behind them. The sorts of the smaller scope's symbols and names are among its own.
 pub record Extends (s r : Scope) : Type 0 where
   pub names : (w : List ℕ) (k : ℕ) → position_of w s.names ≡ Some k → position_of w r.names ≡ Some k
   pub symbols : (k : ℕ) (y : Profile) → slice_get s.symbols k ≡ Some y → slice_get r.symbols k ≡ Some y
   pub bound : s.bound ≡ r.bound
-  pub fits : (a b : SortId) → fits_in s.parents a b ≡ fits_in r.parents a b
-  pub akin : (a b : SortId) → akin_in s.parents a b ≡ akin_in r.parents a b
+  pub more : List (Option SortId)
+  pub parents : r.parents ≡ s.parents ++ more
+  pub results : (k : ℕ) (y : Profile) → slice_get s.symbols k ≡ Some y → IsSortIn s y.result
+  pub standings : (w : List ℕ) (o : Standing) → standing_of w s.bound ≡ Some o → IsSortIn s (standing_sort o)
 
 -- a term has the same flaws, sort and meaning in two scopes
 pub record IsSameIn (s r : Scope) (t : WrittenTerm) : Type 0 where

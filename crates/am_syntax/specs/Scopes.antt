@@ -49,9 +49,9 @@ abbrev pub result_of : Option Profile → Option SortId
 result_of None = None
 result_of (Some y) = y.result
 
-abbrev pub args_of : Option Profile → List SortId
-args_of None = []
-args_of (Some y) = y.args
+abbrev pub argument_sorts_of : Option Profile → List SortId
+argument_sorts_of None = []
+argument_sorts_of (Some y) = y.args
 
 abbrev pub standing_sort : Standing → Option SortId
 standing_sort (Variable n s) = Some s

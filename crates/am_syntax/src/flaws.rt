@@ -1,6 +1,6 @@
 ghost use Rattle.std.specs.Prelude.{◌≡◌, is_none};
 ghost use Rattle.std.specs.List.{list_any};
-ghost use Rattle.am_syntax.specs.Scopes.{scope_of, symbol_of, standing_of, args_of};
+ghost use Rattle.am_syntax.specs.Scopes.{scope_of, symbol_of, standing_of, argument_sorts_of};
 ghost use Rattle.am_syntax.specs.Flaws.{has_unknown_name, has_bad_sort, has_bad_arity, has_unbound, term_has, relation_has, equation_has, are_apart, atom_has, formula_has, has_quantifier, written_sort, written_sorts, misfits, some_misfit, is_relation, is_function, is_lone_relation, is_lone_function, is_miscounted, is_unbound};
 
 use crate::lookups::{standing, symbol, written_sort};
@@ -147,7 +147,8 @@ fn is_miscounted(scope: &Scope, name: &Name, count: usize) -> bool
 }
 
 fn is_lone_relation(scope: &Scope, name: &Name) -> bool
-    ensures { result ≡ is_lone_relation (scope_of scope.now) (standing_of name.now (scope_of scope.now).bound) name.now }
+    ensures { result ≡ is_lone_relation (scope_of scope.now)
+        (standing_of name.now (scope_of scope.now).bound) name.now }
 {
     match standing(scope, name) {
         Some(_) => false,
@@ -156,7 +157,8 @@ fn is_lone_relation(scope: &Scope, name: &Name) -> bool
 }
 
 fn is_lone_function(scope: &Scope, name: &Name) -> bool
-    ensures { result ≡ is_lone_function (scope_of scope.now) (standing_of name.now (scope_of scope.now).bound) name.now }
+    ensures { result ≡ is_lone_function (scope_of scope.now)
+        (standing_of name.now (scope_of scope.now).bound) name.now }
 {
     match standing(scope, name) {
         Some(_) => false,
@@ -165,7 +167,8 @@ fn is_lone_function(scope: &Scope, name: &Name) -> bool
 }
 
 fn is_unbound(scope: &Scope, name: &Name) -> bool
-    ensures { result ≡ is_unbound (standing_of name.now (scope_of scope.now).bound) (symbol_of (scope_of scope.now) name.now) }
+    ensures { result ≡ is_unbound (standing_of name.now (scope_of scope.now).bound)
+        (symbol_of (scope_of scope.now) name.now) }
 {
     match standing(scope, name) {
         Some(Standing::Variable { .. }) => false,
@@ -178,7 +181,8 @@ fn is_unbound(scope: &Scope, name: &Name) -> bool
 // A term's sort doesn't fit its place among the arguments of the symbol of this name.
 #[tactic(auto, using(crate::proofs::FlawSteps::sort_steps))]
 fn has_misfit(scope: &Scope, name: &Name, terms: &[WrittenTerm]) -> bool
-    ensures { result ≡ some_misfit (scope_of scope.now).parents (written_sorts (scope_of scope.now) terms.now) (args_of (symbol_of (scope_of scope.now) name.now)) }
+    ensures { result ≡ some_misfit (scope_of scope.now).parents (written_sorts (scope_of scope.now) terms.now)
+        (argument_sorts_of (symbol_of (scope_of scope.now) name.now)) }
 {
     match symbol(scope, name) {
         Some(symbol) => some_misfit(scope, terms, symbol.args.as_slice()),
@@ -189,7 +193,8 @@ fn has_misfit(scope: &Scope, name: &Name, terms: &[WrittenTerm]) -> bool
 // A term's sort doesn't fit its place; only the places that both have are compared.
 #[tactic(auto, using(crate::proofs::FlawSteps::sort_steps))]
 fn some_misfit(scope: &Scope, terms: &[WrittenTerm], places: &[SortId]) -> bool
-    ensures { result ≡ some_misfit (scope_of scope.now).parents (written_sorts (scope_of scope.now) terms.now) places.now }
+    ensures { result ≡ some_misfit (scope_of scope.now).parents
+        (written_sorts (scope_of scope.now) terms.now) places.now }
 {
     let count = terms.len().min(places.len());
     for i in 0..count {
@@ -257,7 +262,8 @@ fn equation_has(scope: &Scope, flaw: Flaw, left: &WrittenTerm, right: &WrittenTe
 // Both terms have sorts, and these aren't akin.
 #[tactic(auto, using(crate::proofs::FlawSteps::sort_steps))]
 fn are_apart(scope: &Scope, left: &WrittenTerm, right: &WrittenTerm) -> bool
-    ensures { result ≡ are_apart (scope_of scope.now).parents (written_sort (scope_of scope.now) left.now) (written_sort (scope_of scope.now) right.now) }
+    ensures { result ≡ are_apart (scope_of scope.now).parents (written_sort (scope_of scope.now) left.now)
+        (written_sort (scope_of scope.now) right.now) }
 {
     let Some(first) = written_sort(scope, left) else {
         return false;

@@ -75,7 +75,8 @@ impl NameTable {
 
     /// The table with the name, which it may have already.
     pub fn including(self, alloc: Global, name: &Name) -> Result<NameTable, NoMemory>
-        ensures { IfOk result (λ t. (q : List ℕ) → is_among q t.names ≡ (bytes_eq q name.now || is_among q self.names)) }
+        ensures { IfOk result (λ t. (q : List ℕ)
+            → is_among q t.names ≡ (bytes_eq q name.now || is_among q self.names)) }
     {
         if self.position(name).is_some() {
             return Ok(self);

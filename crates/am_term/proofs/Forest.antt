@@ -11,7 +11,7 @@ same_sort-same s = grind (arith, nat_tests)
 pub same_sort-is : (s t : SortId) → same_sort s t ≡ true → s ≡ t
 same_sort-is s t e = let n : s.0 ≡ t.0 = grind (arith, nat_tests) in ap (λ (i : ℕ). let r : SortId = record { 0 = i } in r) n
 
-below-lower : (o : Option (Option SortId)) (s p : SortId) → below s o ≡ Some p → p.0 < s.0
+pub below-lower : (o : Option (Option SortId)) (s p : SortId) → below s o ≡ Some p → p.0 < s.0
 below-lower None s p e = absurd cc
 below-lower (Some None) s p e = absurd cc
 below-lower (Some (Some q)) s p e = by_test (nat_lt q.0 s.0) refl e
@@ -21,7 +21,7 @@ below-lower (Some (Some q)) s p e = by_test (nat_lt q.0 s.0) refl e
     by_test false t e = absurd cc
 
 -- what is done at a parent may be done otherwise, if it comes to the same
-at_parent-same : {A : Type 0} (o : Option SortId) (f g : SortId → A) (d : A) → ((p : SortId) → o ≡ Some p → f p ≡ g p) → at_parent o f d ≡ at_parent o g d
+pub at_parent-same : {A : Type 0} (o : Option SortId) (f g : SortId → A) (d : A) → ((p : SortId) → o ≡ Some p → f p ≡ g p) → at_parent o f d ≡ at_parent o g d
 at_parent-same None f g d h = refl
 at_parent-same (Some p) f g d h = h p refl
 

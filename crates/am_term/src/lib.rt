@@ -26,7 +26,8 @@ pub use copying::{copies, copy, copy_atom, copy_literal};
 pub use id::{SortId, SymId};
 pub use kind::SymKind;
 pub use laws::{
-    law_of_akin, law_of_fits, law_of_instances, law_of_places, law_of_sorts, law_of_span,
+    law_of_akin, law_of_fits, law_of_instances, law_of_older_sorts, law_of_places, law_of_sorts,
+    law_of_span,
 };
 pub use name::{Name, NoMemory};
 pub use places::{at, put_at};

@@ -7,9 +7,9 @@ use Rattle.std.proofs.lemmas.Bool.Decides.{nat_tests}
 use Rattle.am_text.specs.declared.form.FormNode.{FormNode}
 use Rattle.am_text.specs.declared.form.FormNode.TheVariants.{Word, Number}
 use Rattle.am_text.specs.Bytes.{is_word_byte}
-use Rattle.am_text.specs.Atoms.{is_number, read_on, number_of, atom_of}
+use Rattle.am_text.specs.Atoms.{is_number, read_on, number_of, node_spelled}
 use Rattle.am_text.specs.Grammar.{node_height}
-use Rattle.am_text.specs.Spelling.{fits, is_word, node_writable}
+use Rattle.am_text.specs.Spelling.{fits_word, is_word, node_writable}
 use Rattle.am_text.proofs.Folds.{height-Word, height-Number, writable-Word, writable-Number}
 
 abbrev some : FormNode → Option FormNode
@@ -35,15 +35,15 @@ numeral_height (b ∷ bs) n e =
     (λ _ k. some_if (nat_lt (2 ^ 63) (read_on 0 bs)) _ _ n (node_height n ≡ 0) k (λ _ j. absurd cc) (λ _ j. number_height (neg_ℤ (pos (read_on 0 bs))) n j))
     (λ _ k. some_if (nat_lt (read_on 0 (b ∷ bs)) (2 ^ 63)) _ _ n (node_height n ≡ 0) k (λ _ j. number_height (pos (read_on 0 (b ∷ bs))) n j) (λ _ j. absurd cc))
 
-pub atom_height : (w : List ℕ) (n : FormNode) → atom_of w ≡ some n → node_height n ≡ 0
-unfolding atom_of
+pub atom_height : (w : List ℕ) (n : FormNode) → node_spelled w ≡ some n → node_height n ≡ 0
+unfolding node_spelled
 atom_height w n e = some_if (is_number w) _ _ n (node_height n ≡ 0) e (λ _ k. numeral_height w n k) (λ _ k. word_height w n k)
 
 -- ---- an atom can be written
-number_writable : (k : ℤ) (n : FormNode) → fits k ≡ true → some (Number k) ≡ some n → node_writable n ≡ true
+number_writable : (k : ℤ) (n : FormNode) → fits_word k ≡ true → some (Number k) ≡ some n → node_writable n ≡ true
 number_writable k n f e = subst (λ (m : FormNode). node_writable m ≡ true) (same (Number k) n e) (writable-Number k ∙ f)
 
-minus_fits : (k : ℕ) → nat_lt (2 ^ 63) k ≡ false → fits (neg_ℤ (pos k)) ≡ true
+minus_fits : (k : ℕ) → nat_lt (2 ^ 63) k ≡ false → fits_word (neg_ℤ (pos k)) ≡ true
 minus_fits zero f = refl
 minus_fits (suc k) f = let le : suc k ≤ 2 ^ 63 = grind (arith, nat_tests) in lt-ltb k (2 ^ 63) (omega arith)
 
@@ -66,6 +66,6 @@ word_writable b w n e es lt f k = subst (λ (m : FormNode). node_writable m ≡ 
     is : is_word (b ∷ w) ≡ true
     is = rw (some_byte, short, e, es, f) refl
 
-pub atom_writable : (b : ℕ) (w : List ℕ) (n : FormNode) → is_word_byte b ≡ true → list_all is_word_byte w ≡ true → length w < 48 → atom_of (b ∷ w) ≡ some n → node_writable n ≡ true
-unfolding atom_of
+pub atom_writable : (b : ℕ) (w : List ℕ) (n : FormNode) → is_word_byte b ≡ true → list_all is_word_byte w ≡ true → length w < 48 → node_spelled (b ∷ w) ≡ some n → node_writable n ≡ true
+unfolding node_spelled
 atom_writable b w n e es lt a = some_if (is_number (b ∷ w)) _ _ n (node_writable n ≡ true) a (λ _ k. numeral_writable (b ∷ w) n k) (λ f k. word_writable b w n e es lt f k)

@@ -7,7 +7,7 @@ use Rattle.am_text.specs.declared.form.Form.{Form}
 use Rattle.am_text.specs.declared.form.FormNode.{FormNode}
 use Rattle.am_text.specs.declared.form.FormNode.TheVariants as node
 use Rattle.am_text.specs.declared.scan.Mode.TheVariants.{Between, Word, Text, Comment}
-use Rattle.am_text.specs.Atoms.{atom_of}
+use Rattle.am_text.specs.Atoms.{node_spelled}
 use Rattle.am_text.specs.Answers.{◌>>=◌}
 use Rattle.am_text.specs.Scan.{Held, State, in_mode, with_form, ended_word, step, run, finished, start, read}
 use Rattle.am_text.specs.Grammar.{Reads, End, Blank, Nest, Atom, Quoted, EndsWord, EndsLine, ReadsWithin, form, height, highest}
@@ -49,7 +49,7 @@ module _ (depth total : ℕ) where
   one p b bs s t e = finish_run (run depth p (b ∷ bs) s) (run depth (p + 1) bs t) (step_on depth p b bs s t e)
 
   -- the end of a word, before what may stand behind it
-  word_over : (p q : ℕ) (w bs : List ℕ) (n : FormNode) (h : Held) → EndsWord bs → atom_of w ≡ Some n → to_end p bs (in_mode (Word q w) h) ≡ to_end p bs (in_mode Between (with_form q n h))
+  word_over : (p q : ℕ) (w bs : List ℕ) (n : FormNode) (h : Held) → EndsWord bs → node_spelled w ≡ Some n → to_end p bs (in_mode (Word q w) h) ≡ to_end p bs (in_mode Between (with_form q n h))
   unfolding run finished ended_word
   word_over p q w [] n h e a = rw a refl
   word_over p q w (b ∷ bs) n h e a = finish_run (run depth p (b ∷ bs) (in_mode (Word q w) h)) (run depth p (b ∷ bs) (in_mode Between (with_form q n h))) (word_ends depth p q b w bs n h e a)

@@ -10,8 +10,8 @@ use Rattle.std.proofs.lemmas.Bool.Decides.{nat_tests}
 use Rattle.am_text.specs.declared.form.FormNode.{FormNode}
 use Rattle.am_text.specs.declared.form.FormNode.TheVariants.{Number}
 use Rattle.am_text.specs.Bytes.{is_word_byte}
-use Rattle.am_text.specs.Atoms.{read_on, atom_of}
-use Rattle.am_text.specs.Spelling.{fits}
+use Rattle.am_text.specs.Atoms.{read_on, node_spelled}
+use Rattle.am_text.specs.Spelling.{fits_word}
 use Rattle.am_text.proofs.Numbers.{own}
 use Rattle.am_text.proofs.Runs.{both}
 
@@ -28,15 +28,15 @@ word_bytes (d ∷ ds) e = let g = both (is_ascii_digit d) (list_all is_ascii_dig
 no_minus : (d : ℕ) → is_ascii_digit d ≡ true → (d == 45) ≡ false
 no_minus d e = grind (arith, nat_tests)
 
-plain_atom : (ds : List ℕ) (k : ℕ) → 0 < length ds → list_all is_ascii_digit ds ≡ true → read_on 0 ds ≡ k → k < 2 ^ 63 → atom_of ds ≡ some (Number (pos k))
-unfolding atom_of
+plain_atom : (ds : List ℕ) (k : ℕ) → 0 < length ds → list_all is_ascii_digit ds ≡ true → read_on 0 ds ≡ k → k < 2 ^ 63 → node_spelled ds ≡ some (Number (pos k))
+unfolding node_spelled
 plain_atom [] k lt e v fit = absurd (omega arith)
 plain_atom (d ∷ ds) k lt e v fit =
     let g = both (is_ascii_digit d) (list_all is_ascii_digit ds) e in
     rw (no_minus d g.0, e, v, lt-ltb k (2 ^ 63) fit) refl
 
-minus_atom : (ds : List ℕ) (k : ℕ) → 0 < length ds → list_all is_ascii_digit ds ≡ true → read_on 0 ds ≡ suc k → k < 2 ^ 63 → atom_of (45 ∷ ds) ≡ some (Number (negsuc k))
-unfolding atom_of
+minus_atom : (ds : List ℕ) (k : ℕ) → 0 < length ds → list_all is_ascii_digit ds ≡ true → read_on 0 ds ≡ suc k → k < 2 ^ 63 → node_spelled (45 ∷ ds) ≡ some (Number (negsuc k))
+unfolding node_spelled
 minus_atom [] k lt e v fit = absurd (omega arith)
 minus_atom (d ∷ ds) k lt e v fit = rw (e, v, le-ltb (2 ^ 63) (suc k) fit) refl
 
@@ -45,9 +45,9 @@ pub record Spells (w : List ℕ) (n : ℤ) : Type 0 where
   pub some_byte : 0 < length w
   pub short : length w ≤ 48
   pub bytes : list_all is_word_byte w ≡ true
-  pub atom : atom_of w ≡ some (Number n)
+  pub atom : node_spelled w ≡ some (Number n)
 
-pub decimal_spells : (n : ℤ) → fits n ≡ true → Spells (signed_decimal n) n
+pub decimal_spells : (n : ℤ) → fits_word n ≡ true → Spells (signed_decimal n) n
 decimal_spells (pos k) f =
     let lt : k < 2 ^ 63 = grind (arith, nat_tests) in
     let ds = digits_decimal own k (omega arith) in

@@ -3,14 +3,15 @@ use Rattle.std.proofs.Common.{◌≡◌, ℕ, ◌+◌, Bool, List, [], ◌∷◌
 use Rattle.std.specs.Prelude.{ℤ}
 use Rattle.std.specs.List.{list_all, join_with_byte}
 use Rattle.std.specs.Fmt.{signed_decimal}
+use Rattle.am_term.specs.Span.{greatest}
 use Rattle.am_text.specs.declared.form.Form.{Form}
 use Rattle.am_text.specs.declared.form.FormNode.{FormNode}
 use Rattle.am_text.specs.declared.form.FormNode.TheVariants as node
 use Rattle.am_text.specs.declared.form.FormNode.TheVariants.{rolls-Word, rolls-Number, rolls-Text, rolls-List}
 use Rattle.am_text.specs.declared.form.FormNode.TheFolds.{fold-Form, fold-FormNode, fold-roll-Form, fold-roll-FormNode}
 use Rattle.am_text.specs.declared.form.FormNode.TheOpen.{FormNode-F, Form-F}
-use Rattle.am_text.specs.Grammar.{greatest, height_step, form_height, height, node_height}
-use Rattle.am_text.specs.Spelling.{text_step, form_text, written, node_written, is_word, is_text, fits, writable_step, form_writable, is_writable, node_writable, bare_step, form_bare, bare, node_bare}
+use Rattle.am_text.specs.Grammar.{height_step, form_height, height, node_height}
+use Rattle.am_text.specs.Spelling.{text_step, form_text, written, node_written, is_word, is_text, fits_word, writable_step, form_writable, is_writable, node_writable, bare_step, form_bare, bare, node_bare}
 
 module _ (A A' : Type 0) (step : FormNode-F A A' → A) (form_step : Form-F A A' → A') where
   on-Word : (w : List ℕ) → fold-FormNode A A' step form_step (node.Word w) ≡ step (FormNode-F.Word w)
@@ -75,7 +76,7 @@ pub writable-Word : (w : List ℕ) → node_writable (node.Word w) ≡ is_word w
 unfolding node_writable
 writable-Word w = on-Word Bool Bool writable_step form_writable w
 
-pub writable-Number : (n : ℤ) → node_writable (node.Number n) ≡ fits n
+pub writable-Number : (n : ℤ) → node_writable (node.Number n) ≡ fits_word n
 unfolding node_writable
 writable-Number n = on-Number Bool Bool writable_step form_writable n
 

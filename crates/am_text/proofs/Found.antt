@@ -12,9 +12,9 @@ use Rattle.am_text.specs.declared.form.FormNode.TheVariants as node
 use Rattle.am_text.specs.declared.scan.Open.{Open}
 use Rattle.am_text.specs.declared.scan.Mode.TheVariants.{Between, Word, Text, Comment}
 use Rattle.am_text.specs.Bytes.{is_blank, is_word_byte, is_text_byte, is_line_byte}
-use Rattle.am_text.specs.Atoms.{atom_of}
+use Rattle.am_text.specs.Atoms.{node_spelled}
 use Rattle.am_text.specs.Answers.{◌>>=◌}
-use Rattle.am_text.specs.Scan.{Held, State, in_mode, with_form, between, opened as opened_list, closed, in_word, in_text, ended_word, ended_by, step, run, finished, ended, read}
+use Rattle.am_text.specs.Scan.{Held, State, in_mode, with_form, between, list_opened as opened_list, closed, in_word, in_text, ended_word, ended_by, step, run, finished, ended, read}
 use Rattle.am_text.specs.Grammar.{Reads, End, Blank, Nest, Atom, Quoted, EndsWord, EndsLine, ReadsWithin, form, highest}
 use Rattle.am_text.specs.Grammar.{Comment as Remark}
 use Rattle.am_text.proofs.Folds.{height-Text, height-List, height-form}
@@ -36,7 +36,7 @@ low_append k depth (m ∷ ms) gs a b = let r = low_append k depth ms gs (omega a
 text_low : (k depth p : ℕ) (t : List ℕ) → k ≤ depth → k + highest (form p (node.Text t) ∷ []) ≤ depth
 text_low k depth p t le = rw (height-form p (node.Text t), height-Text t) (omega arith)
 
-atom_low : (k depth p : ℕ) (w : List ℕ) (n : FormNode) → atom_of w ≡ Some n → k ≤ depth → k + highest (form p n ∷ []) ≤ depth
+atom_low : (k depth p : ℕ) (w : List ℕ) (n : FormNode) → node_spelled w ≡ Some n → k ≤ depth → k + highest (form p n ∷ []) ≤ depth
 atom_low k depth p w n a le = rw (height-form p n, atom_height w n a) (omega arith)
 
 list_low : (k depth p : ℕ) (gs : List Form) → k + 1 + highest gs ≤ depth → k + highest (form p (node.List gs) ∷ []) ≤ depth
@@ -81,7 +81,7 @@ ends_line_keeps : (a t : List ℕ) → EndsLine true (a ++ 41 ∷ t) → EndsLin
 ends_line_keeps [] t c = absurd (omega arith)
 ends_line_keeps (x ∷ a) t c = c
 
-pub atom_front : (p b : ℕ) (w : List ℕ) (n : FormNode) → is_word_byte b ≡ true → list_all is_word_byte w ≡ true → length w < 48 → atom_of (b ∷ w) ≡ Some n → Front (λ l. EndsWord) (b ∷ w) p (p + 1 + length w) (form p n ∷ [])
+pub atom_front : (p b : ℕ) (w : List ℕ) (n : FormNode) → is_word_byte b ≡ true → list_all is_word_byte w ≡ true → length w < 48 → node_spelled (b ∷ w) ≡ Some n → Front (λ l. EndsWord) (b ∷ w) p (p + 1 + length w) (form p n ∷ [])
 atom_front p b w n e es le a = record { reads = λ l bs gs c r. Atom l p b w bs n gs e es le c a r; len = omega arith; keeps = ends_word_keeps }
 
 line_front : (p : ℕ) (cs : List ℕ) → list_all is_line_byte cs ≡ true → Front EndsLine (59 ∷ cs) p (p + 1 + length cs) []
@@ -114,7 +114,7 @@ module _ (depth last : ℕ) where
   then_run p bs r = r >>= run depth p bs >>= finished last
 
   abbrev Word_rest : ℕ → List ℕ → Held → ℕ → List ℕ → List Form → Type 0
-  Word_rest q w h p bs fs = (ws : List ℕ) × (rest : List ℕ) × (n : FormNode) × (bs ≡ ws ++ rest) × (list_all is_word_byte ws ≡ true) × (length w + length ws ≤ 48) × EndsWord rest × (atom_of (w ++ ws) ≡ Some n) × Rest depth h.outer (h.forms ++ form q n ∷ []) (p + length ws) rest fs
+  Word_rest q w h p bs fs = (ws : List ℕ) × (rest : List ℕ) × (n : FormNode) × (bs ≡ ws ++ rest) × (list_all is_word_byte ws ≡ true) × (length w + length ws ≤ 48) × EndsWord rest × (node_spelled (w ++ ws) ≡ Some n) × Rest depth h.outer (h.forms ++ form q n ∷ []) (p + length ws) rest fs
 
   abbrev Text_rest : ℕ → List ℕ → Held → ℕ → List ℕ → List Form → Type 0
   Text_rest q t h p bs fs = (ts : List ℕ) × (rest : List ℕ) × (bs ≡ ts ++ 34 ∷ rest) × (list_all is_text_byte ts ≡ true) × (length t + length ts ≤ 255) × Rest depth h.outer (h.forms ++ form q (node.Text (t ++ ts)) ∷ []) (p + length ts + 1) rest fs
@@ -162,7 +162,7 @@ module _ (depth last : ℕ) where
       (front_rest depth (λ l. EndsWord) h.outer h.forms (form p r.2 ∷ []) (b ∷ r.0) p (p + 1 + length r.0) r.1 fs (atom_low (length h.outer) depth p (b ∷ r.0) r.2 r.7 low) (atom_front p b r.0 r.2 t r.4 (omega (arith, r.5)) r.7) r.6 r.8))
       (λ _ k. absurd cc))))))
 
-  ended_more : (o : Option FormNode) (q p b : ℕ) (w bs : List ℕ) (h : Held) (fs : List Form) → length h.outer ≤ depth → Claims bs → is_word_byte b ≡ false → length w ≤ 48 → atom_of w ≡ o → then_run (p + 1) bs (ended_by q o h >>= between depth p b) ≡ ok fs → Word_rest q w h p (b ∷ bs) fs
+  ended_more : (o : Option FormNode) (q p b : ℕ) (w bs : List ℕ) (h : Held) (fs : List Form) → length h.outer ≤ depth → Claims bs → is_word_byte b ≡ false → length w ≤ 48 → node_spelled w ≡ o → then_run (p + 1) bs (ended_by q o h >>= between depth p b) ≡ ok fs → Word_rest q w h p (b ∷ bs) fs
   ended_more None q p b w bs h fs low claims other le a e = absurd cc
   ended_more (Some n) q p b w bs h fs low claims other le a e = (
     [],
@@ -186,7 +186,7 @@ module _ (depth last : ℕ) where
     rw (t, r.4) refl,
     omega (arith, r.5, length-append w (b ∷ [])),
     r.6,
-    ap atom_of (sym (append_assoc w (b ∷ []) r.0)) ∙ r.7,
+    ap node_spelled (sym (append_assoc w (b ∷ []) r.0)) ∙ r.7,
     subst (λ (k : ℕ). Rest depth h.outer (h.forms ++ form q r.2 ∷ []) k r.1 fs) (omega arith) r.8,
   )
 
@@ -209,7 +209,7 @@ module _ (depth last : ℕ) where
       (λ _ k2. absurd cc)
       (λ f k2. let short : length w < 48 = grind (arith, nat_tests) in
       longer_word p q b w bs h fs t (claims.word (p + 1) q (w ++ b ∷ []) h fs low (omega (arith, length-append w (b ∷ []))) k2)))
-      (λ f k. ended_more (atom_of w) q p b w bs h fs low claims f le refl k)
+      (λ f k. ended_more (node_spelled w) q p b w bs h fs low claims f le refl k)
 
   text_more : (p q b : ℕ) (t bs : List ℕ) (h : Held) (fs : List Form) → length h.outer ≤ depth → Claims bs → length t ≤ 255 → then_run (p + 1) bs (in_text q t p b h) ≡ ok fs → Text_rest q t h p (b ∷ bs) fs
   unfolding in_text
@@ -263,7 +263,7 @@ module _ (depth last : ℕ) where
       same x y e = cc
   end_plain (o ∷ outer) before p fs low e = absurd (let k : (length (o ∷ outer) == 0) ≡ false = grind (arith, nat_tests) in let f = rw k at e in cc)
 
-  end_word : (o : Option FormNode) (p q : ℕ) (w : List ℕ) (h : Held) (fs : List Form) → length h.outer ≤ depth → length w ≤ 48 → atom_of w ≡ o → (ended_by q o h >>= ended last) ≡ ok fs → Word_rest q w h p [] fs
+  end_word : (o : Option FormNode) (p q : ℕ) (w : List ℕ) (h : Held) (fs : List Form) → length h.outer ≤ depth → length w ≤ 48 → node_spelled w ≡ o → (ended_by q o h >>= ended last) ≡ ok fs → Word_rest q w h p [] fs
   end_word None p q w h fs low le a e = absurd cc
   end_word (Some n) p q w h fs low le a e = ([], [], n, refl, refl, omega arith, tt, rw (append-nil w) a, end_plain h.outer (h.forms ++ form q n ∷ []) (p + 0) fs low e)
 
@@ -271,7 +271,7 @@ module _ (depth last : ℕ) where
   unfolding run finished ended_word
   claims_none = record {
     plain = λ p h fs low e. end_plain h.outer h.forms p fs low e;
-    word = λ p q w h fs low le e. end_word (atom_of w) p q w h fs low le refl e;
+    word = λ p q w h fs low le e. end_word (node_spelled w) p q w h fs low le refl e;
     text = λ p q t h fs low le e. absurd cc;
     line = λ p h fs low e. ([], [], refl, refl, tt, end_plain h.outer h.forms (p + 0) fs low e);
   }

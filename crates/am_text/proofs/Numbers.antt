@@ -11,7 +11,7 @@ use Rattle.std.proofs.lemmas.List.Folds.{list_all_more, list_all_at}
 use Rattle.std.proofs.Common.{inl, inr}
 use Rattle.am_text.specs.declared.form.FormNode.{FormNode}
 use Rattle.am_text.specs.declared.form.FormNode.TheVariants.{Word, Number}
-use Rattle.am_text.specs.Atoms.{has_digits, is_number, read_on, number_of, atom_of}
+use Rattle.am_text.specs.Atoms.{has_digits, is_number, read_on, number_of, node_spelled}
 
 pub own : IsNumeralModel (λ ds. list_all is_ascii_digit ds ≡ true) (read_on 0)
 own = numerals_by_fold _ (search rules) read_on (search rules)
@@ -52,22 +52,22 @@ by_sign : (E : Type 0) (b : ℕ) (bs : List ℕ) (r : Result ℤ E) (t : Bool) �
 by_sign E b bs r true e p h = with_minus E b bs r p (eqb-true b 45 e) h
 by_sign E b bs r false e p h = plain E b bs r p e h
 
-pub number_parsed : (E : Type 0) (word : List ℕ) (r : Result ℤ E) → ParsesSigned w64 10 word r → is_number word ≡ true → Parsed r (atom_of word)
-unfolding atom_of
+pub number_parsed : (E : Type 0) (word : List ℕ) (r : Result ℤ E) → ParsesSigned w64 10 word r → is_number word ≡ true → Parsed r (node_spelled word)
+unfolding node_spelled
 number_parsed E [] r p h = absurd cc
 number_parsed E (b ∷ bs) r p h = rw h (by_sign E b bs r (b == 45) refl p h)
 
 abbrev pub none_of : Option FormNode
 none_of = None
 
-pub word_is : (word : List ℕ) → is_number word ≡ false → atom_of word ≡ Some (Word word)
-unfolding atom_of
+pub word_is : (word : List ℕ) → is_number word ≡ false → node_spelled word ≡ Some (Word word)
+unfolding node_spelled
 word_is word h = rw h refl
 
 pub ruleset atom_laws = (common_steps, word_is)
 
-pub number_ok : (E : Type 0) (word : List ℕ) (n : ℤ) (r : Result ℤ E) → r ≡ Ok n → ParsesSigned w64 10 word r → is_number word ≡ true → Some (Number n) ≡ atom_of word
+pub number_ok : (E : Type 0) (word : List ℕ) (n : ℤ) (r : Result ℤ E) → r ≡ Ok n → ParsesSigned w64 10 word r → is_number word ≡ true → Some (Number n) ≡ node_spelled word
 number_ok E word n r e p t = sym (number_parsed E word (Ok n) (subst (λ (x : Result ℤ E). ParsesSigned w64 10 word x) e p) t)
 
-pub number_err : (E : Type 0) (word : List ℕ) (x : E) (r : Result ℤ E) → r ≡ Err x → ParsesSigned w64 10 word r → is_number word ≡ true → none_of ≡ atom_of word
+pub number_err : (E : Type 0) (word : List ℕ) (x : E) (r : Result ℤ E) → r ≡ Err x → ParsesSigned w64 10 word r → is_number word ≡ true → none_of ≡ node_spelled word
 number_err E word x r e p t = sym (number_parsed E word (Err x) (subst (λ (y : Result ℤ E). ParsesSigned w64 10 word y) e p) t)

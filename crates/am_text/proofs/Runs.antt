@@ -10,8 +10,8 @@ use Rattle.am_text.specs.declared.form.FormNode.{FormNode}
 use Rattle.am_text.specs.declared.form.FormNode.TheVariants as node
 use Rattle.am_text.specs.declared.scan.Mode.TheVariants.{Between, Word, Text, Comment}
 use Rattle.am_text.specs.Bytes.{is_blank, is_word_byte, is_text_byte, is_line_byte}
-use Rattle.am_text.specs.Atoms.{atom_of}
-use Rattle.am_text.specs.Scan.{Held, State, in_mode, with_form, between, opened, closed, in_word, in_text, ended_word, step, run}
+use Rattle.am_text.specs.Atoms.{node_spelled}
+use Rattle.am_text.specs.Scan.{Held, State, in_mode, with_form, between, list_opened, closed, in_word, in_text, ended_word, step, run}
 
 -- ---- one step
 pub step_on : (depth p b : ℕ) (bs : List ℕ) (s t : State) → step depth p b s ≡ Ok t → run depth p (b ∷ bs) s ≡ run depth (p + 1) bs t
@@ -42,7 +42,7 @@ word_on depth p q (b ∷ bs) w rest h e le =
     let three : in_mode (Word q ((w ++ b ∷ []) ++ bs)) h ≡ in_mode (Word q (w ++ b ∷ bs)) h = ap (λ (x : List ℕ). in_mode (Word q x) h) (append_assoc w (b ∷ []) bs) in
     one ∙ two ∙ ap (λ (x : State). run depth (p + 1 + length bs) rest x) three ∙ ap (λ (k : ℕ). run depth k rest (in_mode (Word q (w ++ b ∷ bs)) h)) (omega arith)
 
-pub word_ends : (depth p q b : ℕ) (w rest : List ℕ) (n : FormNode) (h : Held) → is_word_byte b ≡ false → atom_of w ≡ Some n → run depth p (b ∷ rest) (in_mode (Word q w) h) ≡ run depth p (b ∷ rest) (in_mode Between (with_form q n h))
+pub word_ends : (depth p q b : ℕ) (w rest : List ℕ) (n : FormNode) (h : Held) → is_word_byte b ≡ false → node_spelled w ≡ Some n → run depth p (b ∷ rest) (in_mode (Word q w) h) ≡ run depth p (b ∷ rest) (in_mode Between (with_form q n h))
 unfolding run step in_word ended_word
 word_ends depth p q b w rest n h e a = rw (e, a) refl
 
@@ -107,7 +107,7 @@ abbrev pub after : Held → List Form → Held
 after h fs = record { outer = h.outer; forms = h.forms ++ fs }
 
 pub opens : (depth p : ℕ) (h : Held) → length h.outer < depth → step depth p 40 (in_mode Between h) ≡ Ok (in_mode Between (inner p h))
-unfolding step between opened
+unfolding step between list_opened
 opens depth p h lt = rw (lt-ltb (length h.outer) depth lt) refl
 
 pub closes : (depth p q : ℕ) (h : Held) (fs : List Form) → step depth q 41 (in_mode Between (after (inner p h) fs)) ≡ Ok (in_mode Between (with_form p (node.List fs) h))

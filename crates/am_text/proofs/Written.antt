@@ -8,7 +8,7 @@ use Rattle.am_text.specs.declared.form.Form.{Form}
 use Rattle.am_text.specs.declared.form.FormNode.{FormNode}
 use Rattle.am_text.specs.declared.form.FormNode.TheVariants as node
 use Rattle.am_text.specs.Bytes.{is_word_byte, is_text_byte}
-use Rattle.am_text.specs.Atoms.{is_number, atom_of}
+use Rattle.am_text.specs.Atoms.{is_number, node_spelled}
 use Rattle.am_text.specs.Grammar.{Reads, End, Blank, EndsWord, form, height, node_height, highest}
 use Rattle.am_text.specs.Spelling.{written, node_written, is_word, is_text, is_writable, node_writable, bare, node_bare, lines}
 use Rattle.am_text.proofs.FormInduct.{form_induct}
@@ -25,7 +25,7 @@ Before p text g = (last : Bool) (rest : List ℕ) (gs : List Form) → EndsWord 
 front_before : (C : Bool → List ℕ → Type 0) (x : List ℕ) (p q : ℕ) (g : Form) → Front C x p q (g ∷ []) → ((last : Bool) (rest : List ℕ) → EndsWord rest → C last rest) → Before p x g
 front_before C x p q g front has = λ last rest gs ends r. front.reads last rest gs (has last rest ends) (subst (λ (k : ℕ). Reads last k rest gs) (sym front.len) r)
 
-atom_before : (p : ℕ) (w : List ℕ) (n : FormNode) → 0 < length w → length w ≤ 48 → list_all is_word_byte w ≡ true → atom_of w ≡ Some n → Before p w (form p n)
+atom_before : (p : ℕ) (w : List ℕ) (n : FormNode) → 0 < length w → length w ≤ 48 → list_all is_word_byte w ≡ true → node_spelled w ≡ Some n → Before p w (form p n)
 atom_before p [] n lt le e a = absurd (omega arith)
 atom_before p (b ∷ w) n lt le e a =
     let g = both (is_word_byte b) (list_all is_word_byte w) e in

@@ -30,5 +30,5 @@ number_of (b ∷ bs) =
 
 -- the form that a run of a word's bytes is: a number where it is spelled as one, else a word; nothing for a
 -- number that doesn't fit
-unfoldable pub atom_of : List ℕ → Option FormNode
-atom_of word = if is_number word then number_of word else Some (Word word)
+unfoldable pub node_spelled : List ℕ → Option FormNode
+node_spelled word = if is_number word then number_of word else Some (Word word)

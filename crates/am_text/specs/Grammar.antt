@@ -1,13 +1,14 @@
 -- Which forms some bytes are: a grammar with places, apart from any scan.
 use Rattle.std.specs.Prelude.{◌≡◌, ℕ, ◌+◌, ◌<◌, ◌≤◌, Bool, true, false, List, [], ◌∷◌, ◌++◌, length, map, max, Some}
 use Rattle.std.specs.List.{list_all}
+use Rattle.am_term.specs.Span.{greatest}
 use Rattle.am_text.specs.declared.form.Form.{Form}
 use Rattle.am_text.specs.declared.form.FormNode.{FormNode}
 use Rattle.am_text.specs.declared.form.FormNode.TheVariants as node
 use Rattle.am_text.specs.declared.form.FormNode.TheFolds.{fold-Form, fold-FormNode}
 use Rattle.am_text.specs.declared.form.FormNode.TheOpen.{FormNode-F, Form-F}
 use Rattle.am_text.specs.Bytes.{is_blank, is_word_byte, is_text_byte, is_line_byte}
-use Rattle.am_text.specs.Atoms.{atom_of}
+use Rattle.am_text.specs.Atoms.{node_spelled}
 
 abbrev pub form : ℕ → FormNode → Form
 form p n = record { place = p; node = n }
@@ -31,14 +32,10 @@ pub data Reads : Bool → ℕ → List ℕ → List Form → Type 0 where
   Blank : (last : Bool) (p b : ℕ) (bs : List ℕ) (fs : List Form) → is_blank b ≡ true → Reads last (p + 1) bs fs → Reads last p (b ∷ bs) fs
   Comment : (last : Bool) (p : ℕ) (text bs : List ℕ) (fs : List Form) → list_all is_line_byte text ≡ true → EndsLine last bs → Reads last (p + 1 + length text) bs fs → Reads last p (59 ∷ text ++ bs) fs
   Nest : (last : Bool) (p : ℕ) (bs cs : List ℕ) (fs gs : List Form) → Reads false (p + 1) bs fs → Reads last (p + 1 + length bs + 1) cs gs → Reads last p (40 ∷ bs ++ 41 ∷ cs) (form p (node.List fs) ∷ gs)
-  Atom : (last : Bool) (p b : ℕ) (w bs : List ℕ) (n : FormNode) (fs : List Form) → is_word_byte b ≡ true → list_all is_word_byte w ≡ true → length w < 48 → EndsWord bs → atom_of (b ∷ w) ≡ Some n → Reads last (p + 1 + length w) bs fs → Reads last p (b ∷ w ++ bs) (form p n ∷ fs)
+  Atom : (last : Bool) (p b : ℕ) (w bs : List ℕ) (n : FormNode) (fs : List Form) → is_word_byte b ≡ true → list_all is_word_byte w ≡ true → length w < 48 → EndsWord bs → node_spelled (b ∷ w) ≡ Some n → Reads last (p + 1 + length w) bs fs → Reads last p (b ∷ w ++ bs) (form p n ∷ fs)
   Quoted : (last : Bool) (p : ℕ) (t bs : List ℕ) (fs : List Form) → list_all is_text_byte t ≡ true → length t ≤ 255 → Reads last (p + 1 + length t + 1) bs fs → Reads last p (34 ∷ t ++ 34 ∷ bs) (form p (node.Text t) ∷ fs)
 
 -- ---- how many lists are open at once in a form
-abbrev pub greatest : List ℕ → ℕ
-greatest [] = 0
-greatest (n ∷ ns) = max n (greatest ns)
-
 abbrev pub height_step : FormNode-F ℕ ℕ → ℕ
 height_step (FormNode-F.Word w) = 0
 height_step (FormNode-F.Number n) = 0

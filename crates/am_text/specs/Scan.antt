@@ -12,7 +12,7 @@ use Rattle.am_text.specs.declared.scan.Lists.{Lists}
 use Rattle.am_text.specs.declared.scan.Mode.{Mode}
 use Rattle.am_text.specs.declared.scan.Mode.TheVariants.{Between, Word, Text, Comment}
 use Rattle.am_text.specs.Bytes.{is_blank, is_word_byte, is_text_byte}
-use Rattle.am_text.specs.Atoms.{atom_of}
+use Rattle.am_text.specs.Atoms.{node_spelled}
 use Rattle.am_text.specs.Answers.{◌>>=◌}
 
 -- the open lists, the innermost first, and the forms of the innermost
@@ -25,11 +25,11 @@ pub record State : Type 0 where
   pub mode : Mode
   pub held : Held
 
-abbrev pub held : Lists → Held
-held l = record { outer = reverse l.outer; forms = l.forms }
+abbrev pub lists_held : Lists → Held
+lists_held l = record { outer = reverse l.outer; forms = l.forms }
 
 abbrev pub state : Scan → State
-state s = record { mode = s.mode; held = held s.lists }
+state s = record { mode = s.mode; held = lists_held s.lists }
 
 abbrev pub in_mode : Mode → Held → State
 in_mode m h = record { mode = m; held = h }
@@ -42,8 +42,8 @@ abbrev pub with_form : ℕ → FormNode → Held → Held
 with_form q n h = record { outer = h.outer; forms = h.forms ++ record { place = q; node = n } ∷ [] }
 
 -- a ( at p opens a list, unless as many lists are open as may be
-unfoldable pub opened : ℕ → ℕ → Held → Result State TextFault
-opened depth p h =
+unfoldable pub list_opened : ℕ → ℕ → Held → Result State TextFault
+list_opened depth p h =
     if nat_lt (length h.outer) depth
     then Ok (in_mode Between (record { outer = record { place = p; before = h.forms } ∷ h.outer; forms = [] }))
     else fault p TooDeep
@@ -62,7 +62,7 @@ unfoldable pub between : ℕ → ℕ → ℕ → Held → Result State TextFault
 between depth p b h =
     if is_blank b then Ok (in_mode Between h)
     else if b == 59 then Ok (in_mode Comment h)
-    else if b == 40 then opened depth p h
+    else if b == 40 then list_opened depth p h
     else if b == 41 then closed p h
     else if b == 34 then Ok (in_mode (Text p []) h)
     else if is_word_byte b then Ok (in_mode (Word p (b ∷ [])) h)
@@ -74,7 +74,7 @@ ended_by q (Some n) h = Ok (with_form q n h)
 ended_by q None h = fault q BadAtom
 
 unfoldable pub ended_word : ℕ → List ℕ → Held → Result Held TextFault
-ended_word q word h = ended_by q (atom_of word) h
+ended_word q word h = ended_by q (node_spelled word) h
 
 -- A byte behind a word that began at q: one more of its bytes, but a 49th makes it a BadAtom at q; else the word ends
 -- before this byte.

@@ -40,13 +40,13 @@ is_word w = nat_lt 0 (length w) && (nat_le (length w) 48 && (list_all is_word_by
 abbrev pub is_text : List ℕ → Bool
 is_text t = nat_le (length t) 255 && list_all is_text_byte t
 
-abbrev pub fits : ℤ → Bool
-fits (pos n) = nat_lt n (2 ^ 63)
-fits (negsuc n) = nat_lt n (2 ^ 63)
+abbrev pub fits_word : ℤ → Bool
+fits_word (pos n) = nat_lt n (2 ^ 63)
+fits_word (negsuc n) = nat_lt n (2 ^ 63)
 
 abbrev pub writable_step : FormNode-F Bool Bool → Bool
 writable_step (FormNode-F.Word w) = is_word w
-writable_step (FormNode-F.Number n) = fits n
+writable_step (FormNode-F.Number n) = fits_word n
 writable_step (FormNode-F.Text t) = is_text t
 writable_step (FormNode-F.List bs) = list_all (λ b. b) bs
 

@@ -1,5 +1,5 @@
 ghost use Rattle.std.specs.Prelude.{◌≡◌};
-ghost use Rattle.am_text.specs.Atoms.{has_digits, is_number, atom_of};
+ghost use Rattle.am_text.specs.Atoms.{has_digits, is_number, node_spelled};
 
 use crate::form::FormNode;
 use am_term::Name;
@@ -31,7 +31,7 @@ fn is_number(bytes: &[u8]) -> bool
 /// The form that a word is: a number or a word; None for a number that doesn't fit 64 bits.
 #[tactic(auto, using(crate::proofs::Numbers::atom_laws))]
 pub fn atom(word: Name) -> Option<FormNode>
-    ensures { result ≡ atom_of word }
+    ensures { result ≡ node_spelled word }
 {
     if !is_number(word.as_str().as_bytes()) {
         return Some(FormNode::Word(word));

@@ -2,7 +2,7 @@ ghost use Rattle.std.specs.Prelude.{◌≡◌, ◌<◌, ◌^◌, List, Ok, IfOk,
 ghost use Rattle.am_text.specs.Answers.{Gives, IsAnswer};
 ghost use Rattle.am_text.specs.declared.form.Form.{Form};
 ghost use Rattle.am_text.specs.Grammar.{ReadsWithin};
-ghost use Rattle.am_text.specs.Scan.{held, state, opened, closed, between, ended_word, in_word, in_text, step, run, finished, ended, start, read};
+ghost use Rattle.am_text.specs.Scan.{lists_held, state, list_opened, closed, between, ended_word, in_word, in_text, step, run, finished, ended, start, read};
 
 use crate::atom::atom;
 use crate::bytes::{is_blank, is_text_byte, is_word_byte};
@@ -24,7 +24,7 @@ struct Scanner {
 /// The scan after a `)`.
 #[tactic(auto, unfolding(crate::specs::Scan::closed), using(crate::proofs::Steps::scan_laws))]
 fn close(lists: Lists, place: u32) -> Result<Scan, ReadError>
-    ensures { Gives state result (closed place (held lists)) }
+    ensures { Gives state result (closed place (lists_held lists)) }
 {
     let Lists { mut outer, forms } = lists;
     let Some(open) = outer.pop() else {
@@ -41,7 +41,7 @@ fn close(lists: Lists, place: u32) -> Result<Scan, ReadError>
 /// The lists after the end of a word.
 #[tactic(auto, unfolding(crate::specs::Scan::ended_word), using(crate::proofs::Steps::scan_laws))]
 fn end_word(lists: Lists, start: u32, word: Name) -> Result<Lists, ReadError>
-    ensures { Gives held result (ended_word start word (held lists)) }
+    ensures { Gives lists_held result (ended_word start word (lists_held lists)) }
 {
     match atom(word) {
         Some(node) => lists.with_form(start, node),
@@ -52,7 +52,7 @@ fn end_word(lists: Lists, start: u32, word: Name) -> Result<Lists, ReadError>
 /// The scan after a byte inside a text.
 #[tactic(auto, unfolding(crate::specs::Scan::in_text), using(crate::proofs::Steps::scan_laws))]
 fn in_text(lists: Lists, start: u32, text: Name, place: u32, byte: u8) -> Result<Scan, ReadError>
-    ensures { Gives state result (in_text start text place byte (held lists)) }
+    ensures { Gives state result (in_text start text place byte (lists_held lists)) }
 {
     if byte == b'"' {
         let lists = lists.with_form(start, FormNode::Text(text))?;
@@ -75,9 +75,9 @@ fn in_text(lists: Lists, start: u32, text: Name, place: u32, byte: u8) -> Result
 
 impl Scanner {
     /// The scan after a `(`.
-    #[tactic(auto, unfolding(crate::specs::Scan::opened), using(crate::proofs::Steps::scan_laws))]
+    #[tactic(auto, unfolding(crate::specs::Scan::list_opened), using(crate::proofs::Steps::scan_laws))]
     fn open(&self, lists: Lists, place: u32) -> Result<Scan, ReadError>
-        ensures { Gives state result (opened self.now.depth place (held lists)) }
+        ensures { Gives state result (list_opened self.now.depth place (lists_held lists)) }
     {
         let Lists { mut outer, forms } = lists;
         if outer.len() >= self.depth as usize {
@@ -94,7 +94,7 @@ impl Scanner {
     /// The scan after a byte between forms.
     #[tactic(auto, unfolding(crate::specs::Scan::between), using(crate::proofs::Steps::scan_laws))]
     fn between(&self, lists: Lists, place: u32, byte: u8) -> Result<Scan, ReadError>
-        ensures { Gives state result (between self.now.depth place byte (held lists)) }
+        ensures { Gives state result (between self.now.depth place byte (lists_held lists)) }
     {
         if is_blank(byte) {
             return Ok(Scan::new(Mode::Between, lists));
@@ -130,7 +130,7 @@ impl Scanner {
         place: u32,
         byte: u8,
     ) -> Result<Scan, ReadError>
-        ensures { Gives state result (in_word self.now.depth start word place byte (held lists)) }
+        ensures { Gives state result (in_word self.now.depth start word place byte (lists_held lists)) }
     {
         if !is_word_byte(byte) {
             let lists = end_word(lists, start, word)?;
@@ -190,7 +190,7 @@ impl Scanner {
 /// The forms, where the bytes end at the place, between forms.
 #[tactic(auto, using(crate::proofs::Steps::scan_laws))]
 fn end(lists: Lists, place: u32) -> Result<Items<Form>, ReadError>
-    ensures { Gives (λ forms. forms) result (ended place (held lists)) }
+    ensures { Gives (λ forms. forms) result (ended place (lists_held lists)) }
 {
     if !lists.outer.is_empty() {
         return Err(ReadError::at(place, TextKind::Unclosed));
@@ -253,7 +253,8 @@ pub fn read_forms(alloc: Global, bytes: &[u8], limits: TextLimits) -> Result<Ite
     // The bytes are these forms by the grammar, within the limits.
     ensures found { IfOk result (ReadsWithin limits.bytes limits.depth bytes.now) }
     // Whatever forms the bytes are by the grammar, within the limits, are the answer.
-    ensures only { (forms : List Form) → ReadsWithin limits.bytes limits.depth bytes.now forms → IsAnswer result (Ok forms) }
+    ensures only { (forms : List Form) → ReadsWithin limits.bytes limits.depth bytes.now forms
+        → IsAnswer result (Ok forms) }
 {
     answer(alloc, bytes, limits)
 }

@@ -1,6 +1,6 @@
 ghost use Rattle.std.specs.Prelude.{◌≡◌, Ok};
 ghost use Rattle.am_text.specs.Answers.{Gives};
-ghost use Rattle.am_text.specs.Scan.{held, with_form};
+ghost use Rattle.am_text.specs.Scan.{lists_held, with_form};
 
 use crate::fault::ReadError;
 use crate::form::{Form, FormNode};
@@ -34,7 +34,7 @@ impl Lists {
     /// The lists with one more form.
     #[tactic(auto, using(crate::proofs::Steps::scan_laws))]
     pub fn with_form(self, place: u32, node: FormNode) -> Result<Lists, ReadError>
-        ensures { Gives held result (Ok (with_form place node (held self))) }
+        ensures { Gives lists_held result (Ok (with_form place node (lists_held self))) }
     {
         let Lists { outer, mut forms } = self;
         forms.push(Form { place, node })?;

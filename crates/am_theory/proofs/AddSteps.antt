@@ -1,10 +1,10 @@
--- What declarations add: representations, variables and outputs.
-use Rattle.std.proofs.Common.{◌≡◌, ◌∙◌, ℕ, ◌+◌, ◌<◌, ◌≤◌, ◌^◌, Bool, true, false, List, [], ◌∷◌, ◌++◌, map, length, get_or, drop, refl, sym, ap, arith, append_assoc}
-use Rattle.std.specs.Prelude.{◌||◌, ℤ, pos, negsuc}
+-- What declarations add: representations, sorts, variables and outputs.
+use Rattle.std.proofs.Common.{◌≡◌, ◌∙◌, ℕ, ◌+◌, ◌<◌, ◌≤◌, ◌^◌, Bool, true, false, List, [], ◌∷◌, ◌++◌, map, length, get_or, drop, Option, Some, None, Result, Ok, Err, refl, sym, ap, subst, arith, slice_get, append_assoc}
+use Rattle.std.specs.Prelude.{◌||◌, ℤ, pos, negsuc, IfSome, OnOk, OnErr}
 use Rattle.std.specs.Str.{bytes_eq}
 use Rattle.std.proofs.lemmas.Grind.{common_steps}
 use Rattle.std.proofs.lemmas.Bool.Decides.{nat_tests}
-use Rattle.std.proofs.lemmas.List.{append-nil, drop_all}
+use Rattle.std.proofs.lemmas.List.{append-nil, drop_all, length-append}
 use Rattle.std.proofs.lemmas.List.Folds.{list_any-append}
 use Rattle.am_term.specs.declared.id.SortId.{SortId}
 use Rattle.am_term.specs.NameLists.{is_among}
@@ -17,6 +17,7 @@ use Rattle.am_theory.specs.Faults.{names_in, is_out_of}
 use Rattle.am_theory.specs.Limits.{length_limit, extent_limit}
 use Rattle.am_theory.specs.Additions.{with_outputs, with_called}
 use Rattle.am_theory.specs.declared.declaration.Declaration.TheVariants as decl
+use Rattle.am_theory.proofs.Appends.{before, behind, get-side, get-only}
 use Rattle.am_theory.proofs.Distinct.{one-left}
 
 -- ---- numbers of representations
@@ -29,6 +30,31 @@ extent-fits (pos n) h = grind (arith, nat_tests)
 extent-fits (negsuc n) h = absurd cc
 
 pub ruleset extent_steps = (common_steps, length-fits, extent-fits)
+
+-- ---- sorts
+abbrev AreLower : List (Option SortId) → Type 0
+AreLower parents = (s : ℕ) (p : SortId) → slice_get parents s ≡ Some (Some p) → p.0 < s
+
+some-lower : (n : ℕ) (parent : Option SortId) (p : SortId) → IfSome parent (λ q. q.0 < n) → parent ≡ Some p → p.0 < n
+some-lower n None p h e = absurd cc
+some-lower n (Some q) p h e = let same : q ≡ p = cc in subst (λ (x : SortId). x.0 < n) same h
+
+lower-push : (parents : List (Option SortId)) (parent : Option SortId) → AreLower parents → IfSome parent (λ p. p.0 < length parents) → AreLower (parents ++ parent ∷ [])
+lower-push parents parent h k s p e = elim (get-side parents (parent ∷ []) s (Some p) e) [
+  | before g ↦ h s p g
+  | behind j i g ↦ let o : (j ≡ 0) × (parent ≡ Some p) = get-only parent j (Some p) g in let l = some-lower (length parents) parent p k o.1 in omega arith
+]
+
+-- one more sort with its parent, or no sorts
+pub sorts-hold : {E : Type 0} (r : Result (Unit {0}) E) (sorts more : List (List ℕ)) (name : List ℕ) (parents above : List (Option SortId)) (parent : Option SortId) → length parents ≡ length sorts → AreLower parents → IfSome parent (λ p. p.0 < length sorts) → OnOk r (more ≡ sorts ++ name ∷ []) → OnOk r (above ≡ parents ++ parent ∷ []) → OnErr r (more ≡ []) → OnErr r (above ≡ []) → (length above ≡ length more) × AreLower above
+sorts-hold (Ok u) sorts more name parents above parent count lower placed e f g h = (
+  ap length f ∙ length-append parents (parent ∷ []) ∙ ap (λ k. k + 1) count ∙ sym (length-append sorts (name ∷ [])) ∙ ap length (sym e),
+  subst AreLower (sym f) (lower-push parents parent lower (subst (λ n. IfSome parent (λ p. p.0 < n)) (sym count) placed)),
+)
+sorts-hold (Err x) sorts more name parents above parent count lower placed e f g h = (
+  ap length h ∙ ap length (sym g),
+  subst AreLower (sym h) (λ s p k. absurd cc),
+)
 
 -- ---- names of calls
 pub ruleset call_steps = (common_steps, list_any-append)

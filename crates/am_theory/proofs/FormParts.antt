@@ -9,9 +9,10 @@ use Rattle.am_text.specs.declared.form.FormNode.TheVariants as node
 use Rattle.am_text.specs.declared.form.FormNode.TheVariants.{outs-Word, outs-Number, outs-Text, outs-List}
 use Rattle.am_text.specs.declared.form.FormNode.TheViews.{out-FormNode, the_lemmas}
 use Rattle.am_syntax.specs.Shapes.{with_first, all_of}
+use Rattle.am_syntax.specs.Heads.{word_at}
 use Rattle.am_theory.specs.declared.theory.LitValue.{LitValue}
 use Rattle.am_theory.specs.declared.theory.LitValue.TheVariants as value
-use Rattle.am_theory.specs.Declarations.{word_at, number_at, value_at, list_at, word_of, number_of, value_of, list_of}
+use Rattle.am_theory.specs.Declarations.{number_at, value_at, list_at, word_of, number_of, value_of, list_of}
 
 abbrev pub no_word : Option (List ℕ)
 no_word = None

@@ -1,5 +1,5 @@
 -- What was declared stays sound where more is declared.
-use Rattle.std.proofs.Common.{◌≡◌, ◌∙◌, ◌≤◌, ℕ, true, false, Option, Some, None, List, [], refl, sym, ap, arith, slice_get}
+use Rattle.std.proofs.Common.{◌≡◌, ◌∙◌, ◌<◌, ◌≤◌, ◌++◌, ℕ, true, false, Option, Some, None, List, [], length, refl, subst, sym, ap, arith, slice_get}
 use Rattle.std.specs.Prelude.{is_some}
 use Rattle.std.specs.List.{AllByRecursion}
 use Rattle.am_term.specs.declared.id.SortId.{SortId}
@@ -7,11 +7,14 @@ use Rattle.am_term.specs.declared.id.SymId.{SymId}
 use Rattle.am_term.specs.declared.kind.SymKind.{SymKind}
 use Rattle.am_term.specs.declared.term.Formula.{Formula}
 use Rattle.am_term.specs.NameLists.{is_among}
+use Rattle.am_term.proofs.Older.{akin-older}
 use Rattle.am_syntax.specs.declared.scope.Bound.{Bound}
 use Rattle.am_syntax.specs.declared.scope.Flaw.TheVariants.{UnknownName, Unbound}
+use Rattle.am_syntax.specs.declared.scope.Standing.{Standing}
+use Rattle.am_syntax.specs.declared.scope.Standing.TheVariants.{Variable, Input, Barred}
 use Rattle.am_syntax.specs.Positions.{position_of}
-use Rattle.am_syntax.specs.Scopes.{Profile, result_of}
-use Rattle.am_syntax.specs.Laws.{Extends, IsSameFormulaIn}
+use Rattle.am_syntax.specs.Scopes.{Profile, Scope, standing_of, standing_sort, result_of}
+use Rattle.am_syntax.specs.Laws.{Extends, IsSameFormulaIn, IsSortIn}
 use Rattle.am_syntax.proofs.LargerFormula.{formula-kept}
 use Rattle.am_theory.specs.declared.theory.Rep.{Rep}
 use Rattle.am_theory.specs.declared.theory.Routine.{Routine}
@@ -20,9 +23,8 @@ use Rattle.am_theory.specs.declared.theory.LiteralDecl.{LiteralDecl}
 use Rattle.am_theory.specs.declared.theory.Axiom.{Axiom}
 use Rattle.am_theory.specs.Lookups.{known}
 use Rattle.am_theory.specs.Faults.{is_returnable, suits}
-use Rattle.am_theory.proofs.Alone.{fits-alone, akin-alone}
 use Rattle.am_theory.proofs.Appends.{all-weaker, all-at}
-use Rattle.am_theory.proofs.Sound.{IsAlone, IsSortOf, IsConcreteIn, HasResultOf, ProfileSound, StandsIn, RoutineSound, FunctionSound, LiteralSound, FormulaSound, AxiomSound, OneEach, names_of_symbols, sort_rep, sort_at, scope_in}
+use Rattle.am_theory.proofs.Sound.{IsSortOf, IsConcreteIn, HasResultOf, ProfileSound, StandsIn, RoutineSound, FunctionSound, LiteralSound, FormulaSound, AxiomSound, OneEach, names_of_symbols, sort_rep, sort_at, scope_in}
 
 -- each member has its number there too
 abbrev pub Keeps : {X : Type 0} → List X → List X → Type 0
@@ -83,11 +85,27 @@ module _ (reps more : List (Option Rep)) (kept : Keeps reps more) where
         let is = sort-at more larger l.symbol _ [] (stands-kept l.symbol _ [] h.stands) in
         was ∙ sym is ∙ e
 
-    pub one-each-kept : (ls : List LiteralDecl) → AllByRecursion (LiteralSound reps symbols) ls → OneEach symbols ls → OneEach larger ls
-    one-each-kept ls h one i j l m s e f a b v =
-        one i j l m s e f
+    pub one-each-kept : (parents : List (Option SortId)) (ls : List LiteralDecl) → AllByRecursion (LiteralSound reps symbols) ls → OneEach parents symbols ls → OneEach parents larger ls
+    one-each-kept parents ls h one i j l m s r e f a b =
+        one i j l m s r e f
         (literal-sort l s (all-at (LiteralSound reps symbols) ls i l h e) a)
-        (literal-sort m s (all-at (LiteralSound reps symbols) ls j m h f) b) v
+        (literal-sort m r (all-at (LiteralSound reps symbols) ls j m h f) b)
+
+-- ---- sorts of literals
+module _ (parents more : List (Option SortId)) (symbols : List Profile) (each : AllByRecursion (ProfileSound (length parents)) symbols) where
+  result-there : (o : Option SortId) (a : SortId) → HasResultOf (length parents) o → o ≡ Some a → a.0 < length parents
+  result-there None a h e = absurd cc
+  result-there (Some s) a h e = let same : s ≡ a = cc in subst (IsSortOf (length parents)) same h
+
+  sort-by : (f : SymId) (o : Option Profile) (a : SortId) → slice_get symbols f.0 ≡ o → result_of o ≡ Some a → a.0 < length parents
+  sort-by f None a is e = absurd cc
+  sort-by f (Some y) a is e = let h = all-at (ProfileSound (length parents)) symbols f.0 y each is in result-there y.result a h.result e
+
+  -- of older sorts those are akin that were, so with more sorts literals stay one
+  pub one-each-older : (ls : List LiteralDecl) → OneEach parents symbols ls → OneEach (parents ++ more) symbols ls
+  one-each-older ls one i j l m s r e f a b k =
+      one i j l m s r e f a b
+      (sym (akin-older parents more s r (sort-by l.symbol (slice_get symbols l.symbol.0) s refl a) (sort-by m.symbol (slice_get symbols m.symbol.0) r refl b)) ∙ k)
 
 -- ---- profiles
 module _ (count more : ℕ) (le : count ≤ more) where
@@ -102,22 +120,37 @@ module _ (count more : ℕ) (le : count ≤ more) where
   profile-kept y h = record { named = h.named; args = all-weaker (IsSortOf count) (IsSortOf more) sort-kept y.args h.args; result = result-kept y.result h.result; few = h.few }
 
   -- ---- axioms
-  module _ (parents after : List (Option SortId)) (alone : AllByRecursion IsAlone parents) (still : AllByRecursion IsAlone after)
-      (symbols larger : List Profile) (there : Keeps symbols larger)
+  module _ (parents after behind : List (Option SortId)) (counted : length parents ≡ count) (grown : after ≡ parents ++ behind)
+      (symbols larger : List Profile) (each : AllByRecursion (ProfileSound count) symbols) (there : Keeps symbols larger)
       (named : (w : List ℕ) (k : ℕ) → position_of w (names_of_symbols symbols) ≡ Some k → position_of w (names_of_symbols larger) ≡ Some k) where
-    extends : (bound : List Bound) → Extends (scope_in parents symbols bound) (scope_in after larger bound)
-    extends bound = record {
-      names = named;
-      symbols = there;
-      bound = refl;
-      fits = λ a b. fits-alone parents alone a b ∙ sym (fits-alone after still a b);
-      akin = λ a b. akin-alone parents alone a b ∙ sym (akin-alone after still a b);
-    }
+    module _ (bound : List Bound) (variables : (w : List ℕ) (n : ℕ) (s : SortId) → standing_of w bound ≡ Some (Variable n s) → IsSortOf count s) (inputs : (w : List ℕ) (k : ℕ) (s : SortId) → standing_of w bound ≡ Some (Input k s) → ⊥) where
+      abbrev scope : Scope
+      scope = scope_in parents symbols bound
+
+      sort-in : (o : Option SortId) → HasResultOf count o → IsSortIn scope o
+      sort-in None h = tt
+      sort-in (Some s) h = subst (λ n. s.0 < n) (sym counted) h
+
+      standing-in : (w : List ℕ) (o : Standing) → standing_of w bound ≡ Some o → IsSortIn scope (standing_sort o)
+      standing-in w (Variable n s) e = sort-in (Some s) (variables w n s e)
+      standing-in w (Input k s) e = absurd (inputs w k s e)
+      standing-in w Barred e = tt
+
+      extends : Extends scope (scope_in after larger bound)
+      extends = record {
+        names = named;
+        symbols = there;
+        bound = refl;
+        more = behind;
+        parents = grown;
+        results = λ k y e. let h = all-at (ProfileSound count) symbols k y each e in sort-in y.result h.result;
+        standings = standing-in;
+      }
 
     formula-stays : (f : Formula) → FormulaSound count parents symbols f → FormulaSound more after larger f
     formula-stays f h =
         let same : IsSameFormulaIn (scope_in parents symbols h.bound) (scope_in after larger h.bound) h.written =
-        formula-kept (scope_in parents symbols h.bound) (scope_in after larger h.bound) (extends h.bound) h.written (h.flawless UnknownName) (h.flawless Unbound) in
+        formula-kept (scope_in parents symbols h.bound) (scope_in after larger h.bound) (extends h.bound h.variables h.inputs) h.written (h.flawless UnknownName) (h.flawless Unbound) in
         record {
           written = h.written;
           bound = h.bound;

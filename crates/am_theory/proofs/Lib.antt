@@ -5,12 +5,13 @@ pub mod RunOf
 mod AddSteps
 mod Faultless
 pub mod OfForm
-pub mod Alone
 pub mod Appends
 pub mod Growing
+pub mod Kinship
 pub mod MoreCalled
 pub mod MoreSymbols
 pub mod NoFault
+pub mod PlacedSort
 pub mod SortNames
 pub mod Sound
 pub mod SoundAxiom

@@ -1,7 +1,7 @@
 -- Where symbols are added, what was declared stays sound.
 use Rattle.std.proofs.Common.{◌≡◌, ◌∙◌, ◌+◌, ◌≤◌, ℕ, true, false, Some, List, [], ◌∷◌, ◌++◌, length, sym, ap, subst, arith, slice_get}
 use Rattle.std.specs.List.{AllByRecursion}
-use Rattle.std.proofs.lemmas.List.{length-append, map-append}
+use Rattle.std.proofs.lemmas.List.{length-append, map-append, append-nil}
 use Rattle.am_term.specs.declared.id.SortId.{SortId}
 use Rattle.am_term.specs.declared.kind.SymKind.{SymKind}
 use Rattle.am_term.specs.NameLists.{is_among, are_distinct}
@@ -53,8 +53,8 @@ module _ (c : Contents) (s : Sound c) (ys : List Profile) (a : MayBeAdded c ys) 
   pub literals-larger : AllByRecursion (LiteralSound c.reps larger) c.literals
   literals-larger = all-weaker (LiteralSound c.reps c.symbols) (LiteralSound c.reps larger) (literal-kept c.reps c.reps same c.symbols larger kept) c.literals s.of_literals
 
-  pub one-each-larger : OneEach larger c.literals
-  one-each-larger = one-each-kept c.reps c.reps same c.symbols larger kept c.literals s.of_literals s.one_each
+  pub one-each-larger : OneEach c.parents larger c.literals
+  one-each-larger = one-each-kept c.reps c.reps same c.symbols larger kept c.parents c.literals s.of_literals s.one_each
 
   -- ---- axioms
   positions : (w : List ℕ) (k : ℕ) → position_of w (names_of_symbols c.symbols) ≡ Some k → position_of w (names_of_symbols larger) ≡ Some k
@@ -69,7 +69,7 @@ module _ (c : Contents) (s : Sound c) (ys : List Profile) (a : MayBeAdded c ys) 
 
   axiom-larger : (x : Axiom) → AxiomSound (length c.sorts) c.parents c.symbols x → AllByRecursion IsNew (axiom_names x) → AxiomSound (length c.sorts) c.parents larger x
   axiom-larger x h k =
-      axiom-kept (length c.sorts) (length c.sorts) (omega arith) c.parents c.parents s.of_sorts.alone s.of_sorts.alone c.symbols larger kept positions x
+      axiom-kept (length c.sorts) (length c.sorts) (omega arith) c.parents c.parents [] s.of_sorts.parents_counted (sym (append-nil c.parents)) c.symbols larger s.of_symbols.each kept positions x
       (all-both (λ (v : List ℕ × SortId). is_among v.0 (names_of_symbols c.symbols) ≡ false) (λ (v : List ℕ × SortId). IsNew v.0) (λ (v : List ℕ × SortId). is_among v.0 (names_of_symbols larger) ≡ false)
       (λ v e f. ap (is_among v.0) names-larger ∙ among-append v.0 (names_of_symbols c.symbols) (names_of_symbols ys) e f)
       x.vars h.apart (all-unmap IsNew (λ (v : List ℕ × SortId). v.0) x.vars k))

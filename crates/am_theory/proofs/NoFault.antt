@@ -3,11 +3,12 @@ use Rattle.std.proofs.Common.{◌≡◌, Bool, true, false, Option, Some, None, 
 use Rattle.std.specs.Prelude.{if◌then◌else◌}
 use Rattle.am_theory.specs.declared.declaration.Declaration.{Declaration}
 use Rattle.am_theory.specs.declared.fault.TheoryKind.{TheoryKind}
-use Rattle.am_theory.specs.declared.fault.TheoryKind.TheVariants.{UnknownName, Twice, BadSort, BadArity, BadRep, NoCopy, BadFortranName, NameClash, Unbound, Quantifier, Limit}
+use Rattle.am_theory.specs.declared.fault.TheoryKind.TheVariants.{BadHead, UnknownName, Twice, BadSort, BadArity, BadRep, NoCopy, BadFortranName, NameClash, Unbound, Quantifier, Limit}
 use Rattle.am_theory.specs.Contents.{Contents}
-use Rattle.am_theory.specs.Faults.{has_unknown_name, is_twice, has_bad_sort, has_bad_arity, is_badly_represented, lacks_copy, has_bad_fortran_name, clashes, has_unbound, quantifies, is_over_limit, first_kind}
+use Rattle.am_theory.specs.Faults.{is_early, has_unknown_name, is_twice, has_bad_sort, has_bad_arity, is_badly_represented, lacks_copy, has_bad_fortran_name, clashes, has_unbound, quantifies, is_over_limit, first_kind}
 
 pub record IsFaultless (c : Contents) (d : Declaration) : Type 0 where
+  pub allowed : is_early c.version d ≡ false
   pub known : has_unknown_name c d ≡ false
   pub new : is_twice c d ≡ false
   pub sorted : has_bad_sort c d ≡ false
@@ -32,7 +33,8 @@ then_none false k rest e = e
 pub faultless : (c : Contents) (d : Declaration) → first_kind c d ≡ None → IsFaultless c d
 unfolding first_kind
 faultless c d e =
-    let e1 = then_none (has_unknown_name c d) UnknownName _ e in
+    let e0 = then_none (is_early c.version d) BadHead _ e in
+    let e1 = then_none (has_unknown_name c d) UnknownName _ e0 in
     let e2 = then_none (is_twice c d) Twice _ e1 in
     let e3 = then_none (has_bad_sort c d) BadSort _ e2 in
     let e4 = then_none (has_bad_arity c d) BadArity _ e3 in
@@ -43,7 +45,8 @@ faultless c d e =
     let e9 = then_none (has_unbound c d) Unbound _ e8 in
     let e10 = then_none (quantifies c d) Quantifier _ e9 in
     record {
-      known = first_false (has_unknown_name c d) UnknownName _ e;
+      allowed = first_false (is_early c.version d) BadHead _ e;
+      known = first_false (has_unknown_name c d) UnknownName _ e0;
       new = first_false (is_twice c d) Twice _ e1;
       sorted = first_false (has_bad_sort c d) BadSort _ e2;
       counted = first_false (has_bad_arity c d) BadArity _ e3;

@@ -12,27 +12,28 @@ use Rattle.am_text.specs.declared.form.FormNode.{FormNode}
 use Rattle.am_text.specs.declared.form.FormNode.TheVariants.{outs-Word, outs-Number, outs-Text, outs-List}
 use Rattle.am_text.specs.declared.form.FormNode.TheOpen.{FormNode-F}
 use Rattle.am_text.specs.declared.form.FormNode.TheViews.{out-FormNode}
-use Rattle.am_text.specs.Spelling.{is_word, is_text, fits, is_writable, node_writable}
+use Rattle.am_text.specs.Spelling.{is_word, is_text, fits_word, is_writable, node_writable}
 use Rattle.am_text.proofs.Folds.{writable-Word, writable-Number, writable-Text, writable-List, writable-form}
 use Rattle.am_text.proofs.FormInduct.{node_induct}
 use Rattle.am_syntax.specs.declared.written.WrittenFormula.{WrittenFormula}
 use Rattle.am_syntax.specs.declared.written.Words.TheVariants.{Names}
 use Rattle.am_syntax.specs.Shapes.{with_first, all_of, some_of, formula_of}
 use Rattle.am_syntax.specs.Forms.{is_some_list}
+use Rattle.am_syntax.specs.Heads.{word_at}
 use Rattle.am_theory.specs.declared.theory.LitValue.{LitValue}
 use Rattle.am_theory.specs.declared.theory.LitValue.TheVariants as value
 use Rattle.am_theory.specs.declared.declaration.WrittenRep.{WrittenRep}
 use Rattle.am_theory.specs.declared.declaration.WrittenRep.TheVariants as written
 use Rattle.am_theory.specs.declared.declaration.Typed.{Typed}
 use Rattle.am_theory.specs.declared.declaration.Declaration.{Declaration}
-use Rattle.am_theory.specs.declared.declaration.Declaration.TheVariants.{Sort, Function, Relation, Literal, Routine, Value, Axiom}
-use Rattle.am_theory.specs.Declarations.{◌>>=◌, word_at, number_at, value_at, list_at, word_of, number_of, value_of, list_of, if_name, name_of, names_of, typed_in, typed_of, rep_named, rep_of_one, rep_of_two, rep_in, rep_by, written_rep_of, sort_decl, function_decl, relation_decl, literal_decl, routine_decl, value_decl, quantified_axiom, plain_axiom, head_in, tail_of, is_all, axiom_by, axiom_decl, decl_headed, decl_in, decl_of}
+use Rattle.am_theory.specs.declared.declaration.Declaration.TheVariants.{Sort, Subsort, Function, Relation, Literal, Routine, Value, Axiom}
+use Rattle.am_theory.specs.Declarations.{◌>>=◌, number_at, value_at, list_at, word_of, number_of, value_of, list_of, if_name, name_of, names_of, typed_in, typed_of, rep_named, rep_of_one, rep_of_two, rep_in, rep_by, written_rep_of, sort_decl, subsort_decl, function_decl, relation_decl, literal_decl, routine_decl, value_decl, quantified_axiom, plain_axiom, head_in, tail_of, is_all, axiom_by, axiom_decl, decl_headed, decl_in, decl_of}
 use Rattle.am_theory.specs.Traces.{IsOfForm, IsWritten, is_typed, fits_rep, is_written_value}
 
 -- ---- what a node that can be written holds
 abbrev open_writable : FormNode-F FormNode Form → Bool
 open_writable (FormNode-F.Word w) = is_word w
-open_writable (FormNode-F.Number n) = fits n
+open_writable (FormNode-F.Number n) = fits_word n
 open_writable (FormNode-F.Text t) = is_text t
 open_writable (FormNode-F.List fs) = list_all is_writable fs
 
@@ -56,9 +57,9 @@ word-at (FormNode-F.Number n) w h e = absurd cc
 word-at (FormNode-F.Text t) w h e = absurd cc
 word-at (FormNode-F.List fs) w h e = absurd cc
 
-number-at : (x : FormNode-F FormNode Form) (n : ℤ) → open_writable x ≡ true → number_at x ≡ some n → fits n ≡ true
+number-at : (x : FormNode-F FormNode Form) (n : ℤ) → open_writable x ≡ true → number_at x ≡ some n → fits_word n ≡ true
 number-at (FormNode-F.Word v) n h e = absurd cc
-number-at (FormNode-F.Number m) n h e = subst (λ (k : ℤ). fits k ≡ true) (same_Some m n e) h
+number-at (FormNode-F.Number m) n h e = subst (λ (k : ℤ). fits_word k ≡ true) (same_Some m n e) h
 number-at (FormNode-F.Text t) n h e = absurd cc
 number-at (FormNode-F.List fs) n h e = absurd cc
 
@@ -78,7 +79,7 @@ pub word-is : (f : Form) (w : List ℕ) → is_writable f ≡ true → word_of f
 unfolding word_of
 word-is f w h e = word-at (out-FormNode f.node) w (opens f h) e
 
-pub number-fits : (f : Form) (n : ℤ) → is_writable f ≡ true → number_of f ≡ some n → fits n ≡ true
+pub number-fits : (f : Form) (n : ℤ) → is_writable f ≡ true → number_of f ≡ some n → fits_word n ≡ true
 unfolding number_of
 number-fits f n h e = number-at (out-FormNode f.node) n (opens f h) e
 
@@ -171,14 +172,14 @@ rep-named w r e =
     (λ e1. by_if (bytes_eq w (codes "integer")) _ _ r (fits_rep r ≡ true) e1 (λ k. rep-made written.Integer r k refl)
     (λ e2. by_if (bytes_eq w (codes "logical")) _ _ r (fits_rep r ≡ true) e2 (λ k. rep-made written.Logical r k refl) (λ k. absurd cc)))
 
-rep-one : (w : List ℕ) (n : ℤ) (r : WrittenRep) → fits n ≡ true → rep_of_one w n ≡ some r → fits_rep r ≡ true
+rep-one : (w : List ℕ) (n : ℤ) (r : WrittenRep) → fits_word n ≡ true → rep_of_one w n ≡ some r → fits_rep r ≡ true
 rep-one w n r h e =
     by_if (bytes_eq w (codes "char")) _ _ r (fits_rep r ≡ true) e (λ k. rep-made (written.Char n) r k h)
     (λ e1. by_if (bytes_eq w (codes "double")) _ _ r (fits_rep r ≡ true) e1 (λ k. rep-made (written.DoubleVec n) r k h)
     (λ e2. by_if (bytes_eq w (codes "integer")) _ _ r (fits_rep r ≡ true) e2 (λ k. rep-made (written.IntegerVec n) r k h) (λ k. absurd cc)))
 
-rep-two : (w : List ℕ) (m n : ℤ) (r : WrittenRep) → fits m ≡ true → fits n ≡ true → rep_of_two w m n ≡ some r → fits_rep r ≡ true
-rep-two w m n r h k e = by_if (bytes_eq w (codes "double")) _ _ r (fits_rep r ≡ true) e (λ j. rep-made (written.DoubleMat m n) r j (and_both (fits m) (fits n) h k)) (λ j. absurd cc)
+rep-two : (w : List ℕ) (m n : ℤ) (r : WrittenRep) → fits_word m ≡ true → fits_word n ≡ true → rep_of_two w m n ≡ some r → fits_rep r ≡ true
+rep-two w m n r h k e = by_if (bytes_eq w (codes "double")) _ _ r (fits_rep r ≡ true) e (λ j. rep-made (written.DoubleMat m n) r j (and_both (fits_word m) (fits_word n) h k)) (λ j. absurd cc)
 
 first_writable : (f : Form) (fs : List Form) → list_all is_writable (f ∷ fs) ≡ true → is_writable f ≡ true
 first_writable f fs h = and_left (is_writable f) (list_all is_writable fs) h
@@ -232,6 +233,15 @@ sort-written (f ∷ g ∷ c ∷ []) d h e =
     made (Sort a.value (Some b.value) (Some k.value)) d k.gives
     (name-is f a.value a.there, and_both (fits_rep b.value) (is_word k.value) (rep-fits g b.value (first_writable g (c ∷ []) gc) b.there) (word-is c k.value (first_writable c [] (rest_writable g (c ∷ []) gc)) k.there))
 sort-written (f ∷ g ∷ c ∷ x ∷ xs) d h e = absurd cc
+
+subsort-written : (fs : List Form) (d : Declaration) → subsort_decl fs ≡ some d → IsWritten d
+subsort-written [] d e = absurd cc
+subsort-written (f ∷ []) d e = absurd cc
+subsort-written (f ∷ g ∷ []) d e =
+    let a = first_of_two (name_of f) (λ (n : List ℕ). name_of g >>= λ (s : List ℕ). Some (Subsort n s)) d e in
+    let b = first_of_two (name_of g) (λ (s : List ℕ). Some (Subsort a.value s)) d a.gives in
+    made (Subsort a.value b.value) d b.gives (name-is f a.value a.there, name-is g b.value b.there)
+subsort-written (f ∷ g ∷ x ∷ xs) d e = absurd cc
 
 function-written : (fs : List Form) (d : Declaration) → function_decl fs ≡ some d → IsWritten d
 function-written [] d e = absurd cc
@@ -315,12 +325,13 @@ axiom-written (f ∷ g ∷ fs) d e = absurd cc
 headed-written : (w : List ℕ) (fs : List Form) (d : Declaration) → list_all is_writable fs ≡ true → decl_headed w fs ≡ some d → IsWritten d
 headed-written w fs d h e =
     by_if (bytes_eq w (codes "sort")) _ _ d (IsWritten d) e (λ k. sort-written fs d h k)
-    (λ e1. by_if (bytes_eq w (codes "function")) _ _ d (IsWritten d) e1 (λ k. function-written fs d k)
-    (λ e2. by_if (bytes_eq w (codes "relation")) _ _ d (IsWritten d) e2 (λ k. relation-written fs d k)
-    (λ e3. by_if (bytes_eq w (codes "literal")) _ _ d (IsWritten d) e3 (λ k. literal-written fs d h k)
-    (λ e4. by_if (bytes_eq w (codes "routine")) _ _ d (IsWritten d) e4 (λ k. routine-written fs d h k)
-    (λ e5. by_if (bytes_eq w (codes "value")) _ _ d (IsWritten d) e5 (λ k. value-written fs d h k)
-    (λ e6. by_if (bytes_eq w (codes "axiom")) _ _ d (IsWritten d) e6 (λ k. axiom-written fs d k) (λ k. absurd cc)))))))
+    (λ e1. by_if (bytes_eq w (codes "subsort")) _ _ d (IsWritten d) e1 (λ k. subsort-written fs d k)
+    (λ e2. by_if (bytes_eq w (codes "function")) _ _ d (IsWritten d) e2 (λ k. function-written fs d k)
+    (λ e3. by_if (bytes_eq w (codes "relation")) _ _ d (IsWritten d) e3 (λ k. relation-written fs d k)
+    (λ e4. by_if (bytes_eq w (codes "literal")) _ _ d (IsWritten d) e4 (λ k. literal-written fs d h k)
+    (λ e5. by_if (bytes_eq w (codes "routine")) _ _ d (IsWritten d) e5 (λ k. routine-written fs d h k)
+    (λ e6. by_if (bytes_eq w (codes "value")) _ _ d (IsWritten d) e6 (λ k. value-written fs d h k)
+    (λ e7. by_if (bytes_eq w (codes "axiom")) _ _ d (IsWritten d) e7 (λ k. axiom-written fs d k) (λ k. absurd cc))))))))
 
 list-written : (fs : List Form) (d : Declaration) → list_all is_writable fs ≡ true → decl_in fs ≡ some d → IsWritten d
 list-written [] d h e = absurd cc

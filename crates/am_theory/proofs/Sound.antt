@@ -1,5 +1,5 @@
 -- What holds of all that was declared so far.
-use Rattle.std.proofs.Common.{◌≡◌, ◌+◌, ◌<◌, ◌≤◌, ◌++◌, ℕ, true, false, Option, Some, None, List, [], map, length, slice_get}
+use Rattle.std.proofs.Common.{◌≡◌, ◌⊎◌, ◌+◌, ◌<◌, ◌≤◌, ◌++◌, ℕ, true, false, Option, Some, None, List, [], map, length, slice_get}
 use Rattle.std.specs.Prelude.{is_some, IsTrue}
 use Rattle.std.specs.List.{AllByRecursion, AllZip, Contains, flat_map}
 use Rattle.am_term.specs.declared.id.SortId.{SortId}
@@ -9,6 +9,7 @@ use Rattle.am_term.specs.declared.kind.SymKind.TheVariants as kind
 use Rattle.am_term.specs.declared.term.Formula.{Formula}
 use Rattle.am_term.specs.Names.{is_name}
 use Rattle.am_term.specs.NameLists.{is_among, are_distinct}
+use Rattle.am_term.specs.Sorts.{akin_in}
 use Rattle.am_clause.specs.ClauseForm.{cnf}
 use Rattle.am_syntax.specs.declared.scope.Bound.{Bound}
 use Rattle.am_syntax.specs.declared.scope.Standing.TheVariants.{Variable, Input}
@@ -38,20 +39,36 @@ listed = flat_map listed_name
 abbrev pub sort_rep : List (Option Rep) → SortId → Option Rep
 sort_rep reps s = known (slice_get reps s.0)
 
+abbrev pub sort_copy : List (Option (List ℕ)) → SortId → Option (List ℕ)
+sort_copy copies s = known (slice_get copies s.0)
+
 abbrev pub IsSortOf : ℕ → SortId → Type 0
 IsSortOf count s = s.0 < count
 
 abbrev pub IsConcreteIn : List (Option Rep) → SortId → Type 0
 IsConcreteIn reps s = IsTrue (is_some (sort_rep reps s))
 
-abbrev pub IsAlone : Option SortId → Type 0
-IsAlone p = p ≡ None
-
 abbrev pub Suits : Option Rep → Option (List ℕ) → Type 0
 Suits r copy = is_represented r copy ≡ true
 
-pub record SortsSound (sorts : List (List ℕ)) (parents : List (Option SortId)) (reps : List (Option Rep)) (copies : List (Option (List ℕ))) : Type 0 where
-  pub alone : AllByRecursion IsAlone parents
+-- a version of the format; in the first no sort has a parent
+abbrev pub HasVersionOf : ℕ → List (Option SortId) → Type 0
+HasVersionOf v parents = ((v ≡ 1) × AllByRecursion (λ (p : Option SortId). p ≡ None) parents) ⊎ (v ≡ 2)
+
+-- the sort stands behind the other, and has its representation and its copy routine
+pub record IsUnder (reps : List (Option Rep)) (copies : List (Option (List ℕ))) (s p : SortId) : Type 0 where
+  pub lower : p.0 < s.0
+  pub rep : sort_rep reps s ≡ sort_rep reps p
+  pub copy : sort_copy copies s ≡ sort_copy copies p
+
+-- each sort with a parent is under it
+abbrev pub AreUnder : List (Option SortId) → List (Option Rep) → List (Option (List ℕ)) → Type 0
+AreUnder parents reps copies = (s p : SortId) → slice_get parents s.0 ≡ Some (Some p) → IsUnder reps copies s p
+
+pub record SortsSound (version : ℕ) (sorts : List (List ℕ)) (parents : List (Option SortId)) (reps : List (Option Rep)) (copies : List (Option (List ℕ))) : Type 0 where
+  pub versioned : HasVersionOf version parents
+  pub parents_counted : length parents ≡ length sorts
+  pub under : AreUnder parents reps copies
   pub represented : AllZip Suits reps copies
   pub reps_counted : length reps ≡ length sorts
   pub copies_counted : length copies ≡ length sorts
@@ -120,9 +137,9 @@ pub record LiteralSound (reps : List (Option Rep)) (symbols : List Profile) (l :
 abbrev pub sort_at : List Profile → SymId → Option SortId
 sort_at symbols f = result_of (symbol_at symbols (Some f.0))
 
--- two literals of one value and one sort are one
-abbrev pub OneEach : List Profile → List LiteralDecl → Type 0
-OneEach symbols literals = (i j : ℕ) (l m : LiteralDecl) (s : SortId) → slice_get literals i ≡ Some l → slice_get literals j ≡ Some m → sort_at symbols l.symbol ≡ Some s → sort_at symbols m.symbol ≡ Some s → same_value l.value m.value ≡ true → i ≡ j
+-- two literals of one value and akin sorts are one
+abbrev pub OneEach : List (Option SortId) → List Profile → List LiteralDecl → Type 0
+OneEach parents symbols literals = (i j : ℕ) (l m : LiteralDecl) (a b : SortId) → slice_get literals i ≡ Some l → slice_get literals j ≡ Some m → sort_at symbols l.symbol ≡ Some a → sort_at symbols m.symbol ≡ Some b → akin_in parents a b ≡ true → same_value l.value m.value ≡ true → i ≡ j
 
 -- a symbol of this kind is listed where its kind is declared
 abbrev pub OutputsListed : List Profile → List Routine → Type 0
@@ -163,13 +180,13 @@ pub record AxiomSound (count : ℕ) (parents : List (Option SortId)) (symbols : 
 
 -- ---- all
 pub record Sound (c : Contents) : Type 0 where
-  pub of_sorts : SortsSound c.sorts c.parents c.reps c.copies
+  pub of_sorts : SortsSound c.version c.sorts c.parents c.reps c.copies
   pub of_called : CalledSound c.routines c.functions c.copies
   pub of_symbols : SymbolsSound (length c.sorts) c.symbols
   pub of_routines : AllByRecursion (RoutineSound c.reps c.symbols) c.routines
   pub of_functions : AllByRecursion (FunctionSound c.reps c.symbols) c.functions
   pub of_literals : AllByRecursion (LiteralSound c.reps c.symbols) c.literals
-  pub one_each : OneEach c.symbols c.literals
+  pub one_each : OneEach c.parents c.symbols c.literals
   pub outputs : OutputsListed c.symbols c.routines
   pub values : ValuesListed c.symbols c.functions
   pub constants : LiteralsListed c.symbols c.literals

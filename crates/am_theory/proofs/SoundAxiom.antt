@@ -35,9 +35,9 @@ use Rattle.am_theory.specs.Traces.{IsWritten, is_typed, Trace}
 use Rattle.am_theory.proofs.Appends.{all-push, all-map, all-unmap, all-weaker, all-passed, all-failed}
 use Rattle.am_theory.proofs.NoFault.{IsFaultless, faultless}
 use Rattle.am_theory.proofs.OfForm.{of_form}
-use Rattle.am_theory.proofs.Sound.{IsSortOf, FormulaSound, AxiomSound, Sound, names_of_symbols}
+use Rattle.am_theory.proofs.Sound.{IsSortOf, HasVersionOf, FormulaSound, AxiomSound, Sound, names_of_symbols}
 use Rattle.am_theory.proofs.SortNames.{sort-there}
-use Rattle.am_theory.proofs.SoundSort.{sound-Sort}
+use Rattle.am_theory.proofs.SoundSort.{sound-Sort, sound-Subsort}
 use Rattle.am_theory.proofs.SoundSymbol.{sound-Function, sound-Relation}
 use Rattle.am_theory.proofs.SoundLiteral.{sound-Literal}
 use Rattle.am_theory.proofs.SoundRoutine.{sound-Routine}
@@ -162,6 +162,7 @@ module _ (c : Contents) (s : Sound c) (vs : List Typed) (g : WrittenFormula) whe
 -- ---- each declaration
 pub sound-with : (c : Contents) (d : Declaration) → Sound c → IsWritten d → IsFaultless c d → Sound (with_decl c d)
 sound-with c (decl.Sort n r copy) s h f = sound-Sort c s n r copy h f
+sound-with c (decl.Subsort n w) s h f = sound-Subsort c s n w h f
 sound-with c (decl.Function n args r) s h f = sound-Function c s n args r h f
 sound-with c (decl.Relation n args) s h f = sound-Relation c s n args h f
 sound-with c (decl.Literal n w v) s h f = sound-Literal c s n w v h f
@@ -169,15 +170,15 @@ sound-with c (decl.Routine n inputs outs) s h f = sound-Routine c s n inputs out
 sound-with c (decl.Value w n args r) s h f = sound-Value c s w n args r h f
 sound-with c (decl.Axiom vs g) s h f = sound-Axiom c s vs g h f
 
-pub sound-nothing : Sound nothing
-sound-nothing = record {
-  of_sorts = record { alone = tt; represented = tt; reps_counted = refl; copies_counted = refl; named = tt; distinct = refl; few = omega arith; copies_named = tt };
+pub sound-nothing : (v : ℕ) → HasVersionOf v [] → Sound (nothing v)
+sound-nothing v h = record {
+  of_sorts = record { versioned = h; parents_counted = refl; under = λ s p e. absurd cc; represented = tt; reps_counted = refl; copies_counted = refl; named = tt; distinct = refl; few = omega arith; copies_named = tt };
   of_called = record { distinct = refl; apart = tt };
   of_symbols = record { each = tt; distinct = refl; few = omega arith };
   of_routines = tt;
   of_functions = tt;
   of_literals = tt;
-  one_each = λ i j l m r e g a b q. absurd cc;
+  one_each = λ i j l m r u e g a b k q. absurd cc;
   outputs = λ k y e g. absurd cc;
   values = λ k y e g. absurd cc;
   constants = λ k y e g. absurd cc;

@@ -18,14 +18,14 @@ use Rattle.am_theory.specs.declared.theory.LitValue.{LitValue}
 use Rattle.am_theory.specs.declared.theory.LitValue.TheVariants as value
 use Rattle.am_theory.specs.declared.theory.LiteralDecl.{LiteralDecl}
 use Rattle.am_theory.specs.declared.declaration.Declaration.TheVariants as decl
-use Rattle.am_theory.specs.Contents.{Contents, sort_number, next_symbol, with_decl}
-use Rattle.am_theory.specs.Faults.{has_unknown_name, is_unknown_sort, is_twice, is_taken, is_literal_of, is_akin_to, same_value, is_badly_represented, suits, rep_named, is_over_limit}
+use Rattle.am_theory.specs.Contents.{Contents, sort_number, rep_named, next_symbol, with_decl}
+use Rattle.am_theory.specs.Faults.{has_unknown_name, is_unknown_sort, is_twice, is_taken, is_literal_of, is_akin_to, same_value, is_badly_represented, suits, is_over_limit}
 use Rattle.am_theory.specs.Facts.{is_value}
 use Rattle.am_theory.specs.Traces.{IsWritten, is_written_value}
-use Rattle.am_theory.proofs.Alone.{akin-itself}
 use Rattle.am_theory.proofs.Appends.{before, behind, all-push, all-failed, all-at, get-end, get-side, get-only}
 use Rattle.am_theory.proofs.NoFault.{IsFaultless}
 use Rattle.am_theory.proofs.Growing.{literal-sort}
+use Rattle.am_theory.proofs.Kinship.{akin-turned}
 use Rattle.am_theory.proofs.MoreSymbols.{MayBeAdded, kept, symbols-larger, routines-larger, functions-larger, literals-larger, one-each-larger, axioms-larger, of-kind}
 use Rattle.am_theory.proofs.Sound.{LiteralSound, Sound, OneEach, LiteralsListed, sort_at, sort_rep}
 use Rattle.am_theory.proofs.SortNames.{sort-there, rep-there}
@@ -108,30 +108,29 @@ module _ (c : Contents) (s : Sound c) (n : List ℕ) (w : List ℕ) (v : LitValu
     sort-is : (r : SortId) → sort_at larger (next_symbol c) ≡ Some r → sort_number c w ≡ r
     sort-is r e = same_Some (sort_number c w) r (sym (ap result_of there) ∙ e)
 
-    clash : (l : LiteralDecl) (r : SortId) → is_literal_of c (sort_number c w) v l ≡ false → sort_at c.symbols l.symbol ≡ Some r → sort_number c w ≡ r → same_value v l.value ≡ true → ⊥
+    clash : (l : LiteralDecl) (r : SortId) → is_literal_of c (sort_number c w) v l ≡ false → sort_at c.symbols l.symbol ≡ Some r → akin_in c.parents (sort_number c w) r ≡ true → same_value v l.value ≡ true → ⊥
     clash l r e a b i =
-        let akin : is_akin_to c.parents (sort_number c w) (sort_at c.symbols l.symbol) ≡ true =
-        ap (is_akin_to c.parents (sort_number c w)) a ∙ ap (λ (q : SortId). akin_in c.parents (sort_number c w) q) (sym b) ∙ akin-itself c.parents s.of_sorts.alone (sort_number c w) in
+        let akin : is_akin_to c.parents (sort_number c w) (sort_at c.symbols l.symbol) ≡ true = ap (is_akin_to c.parents (sort_number c w)) a ∙ b in
         never_both (is_literal_of c (sort_number c w) v l) (and_both (same_value v l.value) (is_akin_to c.parents (sort_number c w) (sort_at c.symbols l.symbol)) i akin) e
 
     earlier : (i : ℕ) (l : LiteralDecl) (r : SortId) → slice_get c.literals i ≡ Some l → sort_at larger l.symbol ≡ Some r → sort_at c.symbols l.symbol ≡ Some r
     earlier i l r e a = literal-sort c.reps c.reps (λ k x q. q) c.symbols larger (kept c s (literal_profile ∷ []) literal-added) l r (all-at (LiteralSound c.reps c.symbols) c.literals i l s.of_literals e) a
 
-    never-again : (i : ℕ) (l m : LiteralDecl) (r : SortId) → slice_get c.literals i ≡ Some l → literal ≡ m → sort_at larger l.symbol ≡ Some r → sort_at larger m.symbol ≡ Some r → same_value l.value m.value ≡ true → ⊥
-    never-again i l m r e g a b q =
+    never-again : (i : ℕ) (l m : LiteralDecl) (r u : SortId) → slice_get c.literals i ≡ Some l → literal ≡ m → sort_at larger l.symbol ≡ Some r → sort_at larger m.symbol ≡ Some u → akin_in c.parents u r ≡ true → same_value l.value m.value ≡ true → ⊥
+    never-again i l m r u e g a b k q =
         clash l r (all-at (λ x. is_literal_of c (sort_number c w) v x ≡ false) c.literals i l others e) (earlier i l r e a)
-        (sort-is r (ap (λ (x : LiteralDecl). sort_at larger x.symbol) g ∙ b))
+        (ap (λ (x : SortId). akin_in c.parents x r) (sort-is u (ap (λ (x : LiteralDecl). sort_at larger x.symbol) g ∙ b)) ∙ k)
         (values-turned v l.value ∙ ap (λ (x : LiteralDecl). same_value l.value x.value) g ∙ q)
 
-    one-each : OneEach larger (c.literals ++ literal ∷ [])
-    one-each i j l m r e g a b q = elim (get-side c.literals (literal ∷ []) i l e) [
+    one-each : OneEach c.parents larger (c.literals ++ literal ∷ [])
+    one-each i j l m r u e g a b k q = elim (get-side c.literals (literal ∷ []) i l e) [
       | before e1 ↦ elim (get-side c.literals (literal ∷ []) j m g) [
-        | before g1 ↦ one-each-larger c s (literal_profile ∷ []) literal-added i j l m r e1 g1 a b q
-        | behind k y g1 ↦ let o = get-only literal k m g1 in absurd (never-again i l m r e1 o.1 a b q)
+        | before g1 ↦ one-each-larger c s (literal_profile ∷ []) literal-added i j l m r u e1 g1 a b k q
+        | behind j0 y g1 ↦ let o = get-only literal j0 m g1 in absurd (never-again i l m r u e1 o.1 a b (akin-turned c.parents u r ∙ k) q)
       ]
-      | behind k x e1 ↦ elim (get-side c.literals (literal ∷ []) j m g) [
-        | before g1 ↦ let o = get-only literal k l e1 in absurd (never-again j m l r g1 o.1 b a (values-turned m.value l.value ∙ q))
-        | behind d y g1 ↦ let o : (k ≡ 0) × (literal ≡ l) = get-only literal k l e1 in let p : (d ≡ 0) × (literal ≡ m) = get-only literal d m g1 in let k0 : k ≡ 0 = o.0 in let d0 : d ≡ 0 = p.0 in omega arith
+      | behind i0 x e1 ↦ elim (get-side c.literals (literal ∷ []) j m g) [
+        | before g1 ↦ let o = get-only literal i0 l e1 in absurd (never-again j m l u r g1 o.1 b a k (values-turned m.value l.value ∙ q))
+        | behind j0 y g1 ↦ let o : (i0 ≡ 0) × (literal ≡ l) = get-only literal i0 l e1 in let p : (j0 ≡ 0) × (literal ≡ m) = get-only literal j0 m g1 in let first : i0 ≡ 0 = o.0 in let second : j0 ≡ 0 = p.0 in omega arith
       ]
     ]
 

@@ -1,13 +1,10 @@
--- After the declaration of a sort all is sound.
-use Rattle.std.proofs.Common.{◌≡◌, ◌∙◌, ◌+◌, ◌≤◌, ◌&&◌, ℕ, Bool, true, false, not, Option, Some, None, List, [], ◌∷◌, ◌++◌, length, refl, sym, ap, subst, arith, true≢false}
-use Rattle.std.specs.Prelude.{ℤ, pos, negsuc, is_some, is_none, nat_le, option_map, IsTrue}
+-- After the declaration of a sort, alone or under another, all is sound.
+use Rattle.std.proofs.Common.{◌≡◌, ◌∙◌, inl, inr, ◌+◌, ◌&&◌, ℕ, zero, suc, Bool, true, false, not, Option, Some, None, List, [], ◌∷◌, length, refl, sym, ap, subst, arith, slice_get, true≢false}
+use Rattle.std.specs.Prelude.{ℤ, pos, negsuc, is_some, is_none, nat_le, nat_lt, option_map}
 use Rattle.std.specs.List.{AllByRecursion}
-use Rattle.std.specs.Str.{bytes_eq}
 use Rattle.std.proofs.lemmas.Bool.{ltb-false}
-use Rattle.std.proofs.lemmas.List.{length-append}
-use Rattle.std.proofs.lemmas.List.Concat.{flat_map-append}
+use Rattle.std.proofs.lemmas.Option.{same_Some}
 use Rattle.am_term.specs.declared.id.SortId.{SortId}
-use Rattle.am_term.specs.Names.{is_name}
 use Rattle.am_term.specs.NameLists.{is_among}
 use Rattle.am_term.proofs.Tests.{and_both, false_not}
 use Rattle.am_syntax.proofs.Among.{none_left, none_right}
@@ -15,17 +12,19 @@ use Rattle.am_theory.specs.declared.theory.Rep.{Rep}
 use Rattle.am_theory.specs.declared.declaration.WrittenRep.{WrittenRep}
 use Rattle.am_theory.specs.declared.declaration.WrittenRep.TheVariants as written
 use Rattle.am_theory.specs.declared.declaration.Declaration.TheVariants as decl
-use Rattle.am_theory.specs.Contents.{Contents, extent, rep_meaning, with_decl}
-use Rattle.am_theory.specs.Lookups.{listed_name}
-use Rattle.am_theory.specs.Faults.{is_out_of, is_bad_rep, is_array, is_bad_sort_rep, is_array_rep, lacks_copy, is_free_name, is_bad_copy_name, has_bad_fortran_name, copy_clashes, clashes, is_twice, is_badly_represented, is_over_limit}
-use Rattle.am_theory.specs.Facts.{is_within, is_in_range, copies_when_array}
+use Rattle.am_theory.specs.Contents.{Contents, extent, rep_meaning, sort_number, rep_named, copy_named, with_decl}
+use Rattle.am_theory.specs.Lookups.{known, listed_name}
+use Rattle.am_theory.specs.Faults.{has_unknown_name, is_unknown_sort, is_out_of, is_bad_rep, is_array, is_bad_sort_rep, is_array_rep, lacks_copy, is_free_name, is_bad_copy_name, has_bad_fortran_name, copy_clashes, clashes, is_twice, is_badly_represented, is_over_limit}
+use Rattle.am_theory.specs.Facts.{is_within, is_in_range, is_represented, copies_when_array}
 use Rattle.am_theory.specs.Facts.{is_array as is_array_meant}
 use Rattle.am_theory.specs.Limits.{sort_limit, length_limit, extent_limit}
 use Rattle.am_theory.specs.Traces.{IsWritten, is_rep_with}
-use Rattle.am_theory.proofs.Appends.{all-append, all-push, all-weaker, all-both, all-each, get-left, zip-push, none-is, none_both, among-append, distinct-append}
+use Rattle.am_theory.proofs.Appends.{all-front, all-back, apart-turned}
 use Rattle.am_theory.proofs.NoFault.{IsFaultless}
-use Rattle.am_theory.proofs.Growing.{routine-kept, function-kept, literal-kept, profile-kept, axiom-kept}
-use Rattle.am_theory.proofs.Sound.{Suits, IsAlone, SortsSound, CalledSound, ProfileSound, RoutineSound, FunctionSound, LiteralSound, AxiomSound, Sound, listed, called}
+use Rattle.am_theory.proofs.Kinship.{zip-at}
+use Rattle.am_theory.proofs.Sound.{Suits, HasVersionOf, Sound, listed, called, sort_rep, sort_copy}
+use Rattle.am_theory.proofs.SortNames.{sort-there, rep-there, copy-there}
+use Rattle.am_theory.proofs.PlacedSort.{IsFree, IsAbove, MayBePlaced, sound-placed}
 
 -- ---- representations
 within : (most : ℕ) (n : ℤ) → is_out_of most n ≡ false → is_within most (extent n) ≡ true
@@ -68,73 +67,87 @@ represented (Some r) copy e f w =
     (ap (λ b. copies_when_array b copy) (array_same r) ∙ copied (is_array r) copy (none_right (is_bad_rep r) (not (is_array r) && is_some copy) e) f)
 
 -- ---- copy routines
-abbrev IsFree : List ℕ → Type 0
-IsFree n = IsTrue (is_free_name n)
-
 free : (copy : Option (List ℕ)) → is_bad_copy_name copy ≡ false → AllByRecursion IsFree (listed_name copy)
 free None e = tt
 free (Some w) e = (false_not (is_free_name w) e, tt)
 
-listed-push : (copies : List (Option (List ℕ))) (copy : Option (List ℕ)) → listed (copies ++ copy ∷ []) ≡ listed copies ++ (listed_name copy ++ [])
-listed-push copies copy = flat_map-append listed_name copies (copy ∷ [])
+-- what holds of the copy routines holds of that of a sort
+listed-at : (P : List ℕ → Type 0) (copies : List (Option (List ℕ))) (k : ℕ) → AllByRecursion P (listed copies) → AllByRecursion P (listed_name (known (slice_get copies k)))
+listed-at P [] k h = tt
+listed-at P (o ∷ copies) zero h = all-front P (listed_name o) (listed copies) h
+listed-at P (o ∷ copies) (suc k) h = listed-at P copies k (all-back P (listed_name o) (listed copies) h)
 
--- no name is that of the copy routine
-apart-by : (c : Contents) (copy : Option (List ℕ)) → copy_clashes c copy ≡ false → AllByRecursion (λ n. is_among n (listed_name copy ++ []) ≡ false) (called c.routines c.functions)
-apart-by c None e = all-each (λ n. is_among n [] ≡ false) (λ n. refl) (called c.routines c.functions)
-apart-by c (Some w) e = all-weaker (λ n. bytes_eq n w ≡ false) (λ n. is_among n (w ∷ []) ≡ false) (λ n k. none_both (bytes_eq n w) false k refl) (called c.routines c.functions) (none-is w (called c.routines c.functions) e)
+uncalled-by : (c : Contents) (copy : Option (List ℕ)) → AllByRecursion (λ m. is_among m (called c.routines c.functions) ≡ false) (listed_name copy) → copy_clashes c copy ≡ false
+uncalled-by c None h = refl
+uncalled-by c (Some w) h = h.0
 
-called-apart : (c : Contents) (copy : Option (List ℕ)) → CalledSound c.routines c.functions c.copies → copy_clashes c copy ≡ false → CalledSound c.routines c.functions (c.copies ++ copy ∷ [])
-called-apart c copy h e = record {
-  distinct = h.distinct;
-  apart = all-both (λ n. is_among n (listed c.copies) ≡ false) (λ n. is_among n (listed_name copy ++ []) ≡ false) (λ n. is_among n (listed (c.copies ++ copy ∷ [])) ≡ false)
-      (λ n a b. ap (is_among n) (listed-push c.copies copy) ∙ among-append n (listed c.copies) (listed_name copy ++ []) a b)
-      (called c.routines c.functions) h.apart (apart-by c copy e);
-}
+-- ---- declarations
+module _ (c : Contents) (s : Sound c) (n : List ℕ) where
+  -- ---- a sort of its own
+  module _ (r : Option WrittenRep) (copy : Option (List ℕ)) where
+    sort-placed : IsWritten (decl.Sort n r copy) → IsFaultless c (decl.Sort n r copy) → MayBePlaced c n None (option_map rep_meaning r) copy
+    unfolding is_twice is_badly_represented lacks_copy has_bad_fortran_name clashes is_over_limit
+    sort-placed w f = record {
+      named = w.0;
+      new = f.new;
+      few = ltb-false sort_limit (length c.sorts + 1) f.few;
+      represented = represented r copy f.represented f.copied w.1;
+      free = free copy f.named;
+      uncalled = f.apart;
+      allowed = inl refl;
+      above = λ p e. absurd cc;
+    }
 
--- ---- sorts
-sorts-push : (sorts : List (List ℕ)) (parents : List (Option SortId)) (reps : List (Option Rep)) (copies : List (Option (List ℕ))) (n : List ℕ) (r : Option Rep) (copy : Option (List ℕ)) → SortsSound sorts parents reps copies
-    → is_name n ≡ true → is_among n sorts ≡ false → length sorts + 1 ≤ sort_limit → Suits r copy → AllByRecursion IsFree (listed_name copy)
-    → SortsSound (sorts ++ n ∷ []) (parents ++ None ∷ []) (reps ++ r ∷ []) (copies ++ copy ∷ [])
-sorts-push sorts parents reps copies n r copy h name new few suits frees = record {
-  alone = all-push IsAlone parents None h.alone refl;
-  represented = zip-push Suits reps copies r copy h.represented suits;
-  reps_counted = length-append reps (r ∷ []) ∙ ap (λ k. k + 1) h.reps_counted ∙ sym (length-append sorts (n ∷ []));
-  copies_counted = length-append copies (copy ∷ []) ∙ ap (λ k. k + 1) h.copies_counted ∙ sym (length-append sorts (n ∷ []));
-  named = all-push (λ m. IsTrue (is_name m)) sorts n h.named name;
-  distinct = distinct-append sorts (n ∷ []) h.distinct refl (new, tt);
-  few = subst (λ k. k ≤ sort_limit) (sym (length-append sorts (n ∷ []))) few;
-  copies_named = subst (AllByRecursion IsFree) (sym (listed-push copies copy)) (all-append IsFree (listed copies) (listed_name copy ++ []) h.copies_named (all-append IsFree (listed_name copy) [] frees tt));
-}
+    pub sound-Sort : IsWritten (decl.Sort n r copy) → IsFaultless c (decl.Sort n r copy) → Sound (with_decl c (decl.Sort n r copy))
+    unfolding with_decl
+    sound-Sort w f = sound-placed c s n None (option_map rep_meaning r) copy (sort-placed w f)
 
-module _ (c : Contents) (s : Sound c) (n : List ℕ) (r : Option WrittenRep) (copy : Option (List ℕ)) where
-  more_sorts : length c.sorts ≤ length (c.sorts ++ n ∷ [])
-  more_sorts = omega (arith, length-append c.sorts (n ∷ []))
+  -- ---- a sort under another
+  module _ (name : List ℕ) where
+    second : HasVersionOf c.version c.parents → nat_lt c.version 2 ≡ false → c.version ≡ 2
+    second (inl h) e = absurd (let v = h.0 in let l = ltb-false c.version 2 e in omega arith)
+    second (inr v) e = v
 
-  pub sound-Sort : IsWritten (decl.Sort n r copy) → IsFaultless c (decl.Sort n r copy) → Sound (with_decl c (decl.Sort n r copy))
-  unfolding with_decl is_twice is_badly_represented lacks_copy has_bad_fortran_name clashes is_over_limit
-  sound-Sort w f =
-      let q = option_map rep_meaning r in
-      let reps = c.reps ++ q ∷ [] in
-      let kept = get-left c.reps (q ∷ []) in
-      let sorts = sorts-push c.sorts c.parents c.reps c.copies n q copy s.of_sorts w.0 f.new (ltb-false sort_limit (length c.sorts + 1) f.few) (represented r copy f.represented f.copied w.1) (free copy f.named) in
-      record {
-        of_sorts = sorts;
-        of_called = called-apart c copy s.of_called f.apart;
-        of_symbols = record {
-          each = all-weaker (ProfileSound (length c.sorts)) (ProfileSound (length (c.sorts ++ n ∷ []))) (profile-kept (length c.sorts) (length (c.sorts ++ n ∷ [])) more_sorts) c.symbols s.of_symbols.each;
-          distinct = s.of_symbols.distinct;
-          few = s.of_symbols.few;
-        };
-        of_routines = all-weaker (RoutineSound c.reps c.symbols) (RoutineSound reps c.symbols) (routine-kept c.reps reps kept c.symbols c.symbols (λ k x e. e)) c.routines s.of_routines;
-        of_functions = all-weaker (FunctionSound c.reps c.symbols) (FunctionSound reps c.symbols) (function-kept c.reps reps kept c.symbols c.symbols (λ k x e. e)) c.functions s.of_functions;
-        of_literals = all-weaker (LiteralSound c.reps c.symbols) (LiteralSound reps c.symbols) (literal-kept c.reps reps kept c.symbols c.symbols (λ k x e. e)) c.literals s.of_literals;
-        one_each = s.one_each;
-        outputs = s.outputs;
-        values = s.values;
-        constants = s.constants;
-        numbered = s.numbered;
-        of_axioms = all-weaker (AxiomSound (length c.sorts) c.parents c.symbols) (AxiomSound (length (c.sorts ++ n ∷ [])) (c.parents ++ None ∷ []) c.symbols)
-            (λ a h. axiom-kept (length c.sorts) (length (c.sorts ++ n ∷ [])) more_sorts c.parents (c.parents ++ None ∷ []) s.of_sorts.alone sorts.alone c.symbols c.symbols (λ k x e. e) (λ v k e. e) a h.apart h)
-            c.axioms s.of_axioms;
-        few_axioms = s.few_axioms;
-      }
+    module _ (known_sort : is_unknown_sort c name ≡ false) where
+      abbrev above : SortId
+      above = sort_number c name
+
+      rep-is : rep_named c name ≡ sort_rep c.reps above
+      rep-is = rep-there c name known_sort
+
+      copy-is : copy_named c name ≡ sort_copy c.copies above
+      copy-is = copy-there c name known_sort
+
+      suits-above : Suits (rep_named c name) (copy_named c name)
+      suits-above = ap (λ (x : Option Rep). is_represented x (copy_named c name)) rep-is ∙ ap (is_represented (sort_rep c.reps above)) copy-is ∙ zip-at c.reps c.copies above.0 s.of_sorts.represented
+
+      free-above : AllByRecursion IsFree (listed_name (copy_named c name))
+      free-above = subst (λ (o : Option (List ℕ)). AllByRecursion IsFree (listed_name o)) (sym copy-is) (listed-at IsFree c.copies above.0 s.of_sorts.copies_named)
+
+      uncalled-above : copy_clashes c (copy_named c name) ≡ false
+      uncalled-above = ap (copy_clashes c) copy-is ∙ uncalled-by c (sort_copy c.copies above)
+          (listed-at (λ m. is_among m (called c.routines c.functions) ≡ false) c.copies above.0 (apart-turned (called c.routines c.functions) (listed c.copies) s.of_called.apart))
+
+      is-above : (p : SortId) → Some above ≡ Some p → IsAbove c (rep_named c name) (copy_named c name) p
+      is-above p e = subst (IsAbove c (rep_named c name) (copy_named c name)) (same_Some above p e) (record { there = sort-there c name known_sort; same_rep = rep-is; same_copy = copy-is })
+
+    known-above : IsFaultless c (decl.Subsort n name) → is_unknown_sort c name ≡ false
+    unfolding has_unknown_name
+    known-above f = f.known
+
+    subsort-placed : IsWritten (decl.Subsort n name) → IsFaultless c (decl.Subsort n name) → MayBePlaced c n (Some (sort_number c name)) (rep_named c name) (copy_named c name)
+    unfolding is_twice is_over_limit
+    subsort-placed w f = let k = known-above f in record {
+      named = w.0;
+      new = f.new;
+      few = ltb-false sort_limit (length c.sorts + 1) f.few;
+      represented = suits-above k;
+      free = free-above k;
+      uncalled = uncalled-above k;
+      allowed = inr (second s.of_sorts.versioned f.allowed);
+      above = is-above k;
+    }
+
+    pub sound-Subsort : IsWritten (decl.Subsort n name) → IsFaultless c (decl.Subsort n name) → Sound (with_decl c (decl.Subsort n name))
+    unfolding with_decl
+    sound-Subsort w f = sound-placed c s n (Some (sort_number c name)) (rep_named c name) (copy_named c name) (subsort-placed w f)

@@ -10,8 +10,8 @@ use Rattle.am_syntax.proofs.Among.{none_left, none_right}
 use Rattle.am_theory.specs.declared.theory.Rep.{Rep}
 use Rattle.am_theory.specs.declared.theory.FortranFunction.{FortranFunction}
 use Rattle.am_theory.specs.declared.declaration.Declaration.TheVariants as decl
-use Rattle.am_theory.specs.Contents.{Contents, sort_number, sort_numbers, next_symbol, with_decl}
-use Rattle.am_theory.specs.Faults.{has_unknown_name, is_unknown_sort, is_twice, is_badly_represented, is_abstract, is_returnable, rep_named, has_bad_fortran_name, is_free_name, clashes, is_over_limit, is_past_symbols}
+use Rattle.am_theory.specs.Contents.{Contents, sort_number, sort_numbers, rep_named, next_symbol, with_decl}
+use Rattle.am_theory.specs.Faults.{has_unknown_name, is_unknown_sort, is_twice, is_badly_represented, is_abstract, is_returnable, has_bad_fortran_name, is_free_name, clashes, is_over_limit, is_past_symbols}
 use Rattle.am_theory.specs.Limits.{argument_limit}
 use Rattle.am_theory.specs.Traces.{IsWritten}
 use Rattle.am_theory.proofs.Appends.{all-push, get-end}

@@ -1,6 +1,6 @@
 -- Each theory that was read is well formed.
-use Rattle.std.proofs.Common.{◌≡◌, ◌∙◌, ◌≤◌, ℕ, zero, suc, true, false, Option, Some, None, List, [], ◌∷◌, map, length, refl, sym, ap, subst, slice_get, Ok}
-use Rattle.std.specs.List.{AllByRecursion, AllZip}
+use Rattle.std.proofs.Common.{◌≡◌, ◌∙◌, ◌⊎◌, inl, inr, ◌≤◌, ℕ, zero, suc, true, false, Option, Some, None, List, [], ◌∷◌, map, length, refl, sym, ap, subst, slice_get, Ok}
+use Rattle.std.specs.List.{AllByRecursion}
 use Rattle.std.proofs.lemmas.List.{length-map}
 use Rattle.am_term.specs.declared.id.SortId.{SortId}
 use Rattle.am_term.specs.declared.id.SymId.{SymId}
@@ -15,30 +15,21 @@ use Rattle.am_syntax.specs.Scopes.{Profile, profile, result_of}
 use Rattle.am_term.specs.SortedFormula.{is_sorted_formula}
 use Rattle.am_syntax.specs.Laws.{MatchesSignature}
 use Rattle.am_syntax.proofs.WellSortedFormula.{formula-sorted}
-use Rattle.am_theory.specs.declared.theory.Rep.{Rep}
 use Rattle.am_theory.specs.declared.theory.Routine.{Routine}
 use Rattle.am_theory.specs.declared.theory.FortranFunction.{FortranFunction}
 use Rattle.am_theory.specs.declared.theory.LiteralDecl.{LiteralDecl}
 use Rattle.am_theory.specs.declared.theory.Axiom.{Axiom}
 use Rattle.am_theory.specs.declared.theory.Theory.{Theory}
 use Rattle.am_theory.specs.Contents.{contents, nothing}
-use Rattle.am_theory.specs.Lookups.{known, rep_of, copy_of}
+use Rattle.am_theory.specs.Lookups.{rep_of, copy_of}
 use Rattle.am_theory.specs.Facts.{HasResult, IsSymbol, Stands, IsRoutine, IsFunction, IsLiteral, IsAxiom, OneLiteral, WellFormed}
 use Rattle.am_theory.specs.Limits.{symbol_limit}
 use Rattle.am_theory.specs.Reading.{theory}
-use Rattle.am_theory.proofs.Alone.{akin-is}
+use Rattle.am_theory.proofs.Kinship.{zip-at, akin-alike}
 use Rattle.am_theory.proofs.Appends.{all-weaker, all-unmap}
-use Rattle.am_theory.proofs.RunOf.{Run, run_of}
-use Rattle.am_theory.proofs.Sound.{Suits, HasResultOf, ProfileSound, StandsIn, RoutineSound, FunctionSound, LiteralSound, FormulaSound, AxiomSound, Sound, names_of_symbols, sort_at, scope_in}
+use Rattle.am_theory.proofs.RunOf.{Started, run_of}
+use Rattle.am_theory.proofs.Sound.{HasResultOf, ProfileSound, StandsIn, RoutineSound, FunctionSound, LiteralSound, FormulaSound, AxiomSound, HasVersionOf, Sound, names_of_symbols, sort_at, scope_in}
 use Rattle.am_theory.proofs.SoundAxiom.{sound-nothing, sound-run}
-
--- ---- members of two lists side by side
-zip-at : (rs : List (Option Rep)) (cs : List (Option (List ℕ))) (k : ℕ) → AllZip Suits rs cs → Suits (known (slice_get rs k)) (known (slice_get cs k))
-zip-at [] [] k h = refl
-zip-at [] (c ∷ cs) k h = absurd h
-zip-at (r ∷ rs) [] k h = absurd h
-zip-at (r ∷ rs) (c ∷ cs) zero h = h.0
-zip-at (r ∷ rs) (c ∷ cs) (suc k) h = zip-at rs cs k h.1
 
 -- ---- symbols and their profiles
 get-profile : (ys : List Symbol) (k : ℕ) (y : Symbol) → slice_get ys k ≡ Some y → slice_get (map profile ys) k ≡ Some (profile y)
@@ -103,18 +94,17 @@ module _ (t : Theory) (s : Sound (contents t)) where
   literal-is : (l : LiteralDecl) → LiteralSound t.reps profiles l → IsLiteral t l
   literal-is l h = record { stands = stands-there l.symbol kind.Literal [] h.stands; suited = h.suited; valued = h.valued }
 
-  -- ---- akin sorts are one, and two literals of one value and one sort are one
-  akin-one : (a b : SortId) → akin t.sig a b ≡ true → a ≡ b
+  -- ---- akin sorts have one representation and one copy routine, and two literals of one value and akin sorts are one
+  alike : (a b : SortId) → akin t.sig a b ≡ true → (rep_of t a ≡ rep_of t b) × (copy_of t a ≡ copy_of t b)
   unfolding akin
-  akin-one a b e = akin-is t.sig.parents s.of_sorts.alone a b e
+  alike = akin-alike t.sig.parents t.reps t.copies s.of_sorts.under
 
   sort-stands : (l : LiteralDecl) (h : Stands t l.symbol kind.Literal []) → sort_at profiles l.symbol ≡ Some h.sort
   sort-stands l h = ap result_of (get-profile t.sig.symbols l.symbol.0 h.symbol h.there) ∙ h.result
 
   one-literal : OneLiteral t
-  one-literal i j l m e f first second v a =
-      let same : second.sort ≡ first.sort = sym (akin-one first.sort second.sort a) in
-      s.one_each i j l m first.sort e f (sort-stands l first) (sort-stands m second ∙ ap (λ (r : SortId). Some r) same) v
+  unfolding akin
+  one-literal i j l m e f first second v a = s.one_each i j l m first.sort second.sort e f (sort-stands l first) (sort-stands m second) a v
 
   -- ---- axioms
   matches : (g : Formula) (f : FormulaSound (length t.sig.sorts) t.sig.parents profiles g) → MatchesSignature (scope_in t.sig.parents profiles f.bound) t.sig []
@@ -134,6 +124,7 @@ module _ (t : Theory) (s : Sound (contents t)) where
 
   pub well-formed : WellFormed t
   well-formed = record {
+    version = s.of_sorts.versioned;
     reps = s.of_sorts.reps_counted;
     copies = s.of_sorts.copies_counted;
     sorts_named = s.of_sorts.named;
@@ -141,7 +132,7 @@ module _ (t : Theory) (s : Sound (contents t)) where
     few_sorts = s.of_sorts.few;
     represented = λ r. zip-at t.reps t.copies r.0 s.of_sorts.represented;
     copies_named = s.of_sorts.copies_named;
-    alike = λ a b e. let same = akin-one a b e in (ap (rep_of t) same, ap (copy_of t) same);
+    alike = alike;
     symbols = symbols-are;
     symbols_distinct = ap are_distinct (sym symbol-names) ∙ s.of_symbols.distinct;
     few_symbols = subst (λ k. k ≤ symbol_limit) (length-map t.sig.symbols profile) s.of_symbols.few;
@@ -159,7 +150,12 @@ module _ (t : Theory) (s : Sound (contents t)) where
     few_axioms = s.few_axioms;
   }
 
+first-version : (v : ℕ) → (v ≡ 1) ⊎ (v ≡ 2) → HasVersionOf v []
+first-version v (inl e) = inl (e, tt)
+first-version v (inr e) = inr e
+
 pub read_well_formed : (bytes : List ℕ) (t : Theory) → theory bytes ≡ Ok (contents t) → WellFormed t
 read_well_formed bytes t e =
-    let run : Run nothing (contents t) = run_of bytes (contents t) e in
-    well-formed t (sound-run run.0 nothing (contents t) sound-nothing run.1)
+    let start : Started (contents t) = run_of bytes (contents t) e in
+    let run = start.run in
+    well-formed t (sound-run run.0 (nothing t.version) (contents t) (sound-nothing t.version (first-version t.version start.versioned)) run.1)

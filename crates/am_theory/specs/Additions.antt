@@ -1,6 +1,7 @@
 -- New names, and one more member of each list of a theory.
-use Rattle.std.specs.Prelude.{◌&&◌, ℕ, Bool, not, Option, None, List, [], ◌∷◌, ◌++◌}
+use Rattle.std.specs.Prelude.{◌&&◌, ℕ, Bool, not, Option, List, [], ◌∷◌, ◌++◌}
 use Rattle.std.specs.List.{list_any}
+use Rattle.am_term.specs.declared.id.SortId.{SortId}
 use Rattle.am_term.specs.NameLists.{is_among, are_distinct}
 use Rattle.am_theory.specs.declared.declaration.Typed.{Typed}
 use Rattle.am_theory.specs.declared.theory.Routine.{Routine}
@@ -22,9 +23,9 @@ abbrev pub with_outputs : Contents → List (List ℕ) → List Typed → Conten
 with_outputs c inputs [] = c
 with_outputs c inputs (o ∷ os) = with_outputs (with_symbol c (output_profile c inputs o)) inputs os
 
--- a sort's name more, without a parent
-abbrev pub with_named_sort : Contents → List ℕ → Contents
-with_named_sort c n = record c { sorts = c.sorts ++ n ∷ []; parents = c.parents ++ None ∷ [] }
+-- a sort's name more, with its parent
+abbrev pub with_named_sort : Contents → List ℕ → Option SortId → Contents
+with_named_sort c n parent = record c { sorts = c.sorts ++ n ∷ []; parents = c.parents ++ parent ∷ [] }
 
 -- a copy routine more, or none for a sort that has none
 abbrev pub with_copy : Contents → Option (List ℕ) → Contents

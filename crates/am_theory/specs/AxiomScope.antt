@@ -9,6 +9,7 @@ use Rattle.am_theory.specs.Contents.{Contents, axiom_scope}
 -- the variables of an axiom; nothing else has any
 abbrev pub variables_in : Declaration → List Typed
 variables_in (decl.Sort n r copy) = []
+variables_in (decl.Subsort n s) = []
 variables_in (decl.Function n args r) = []
 variables_in (decl.Relation n args) = []
 variables_in (decl.Literal n s v) = []

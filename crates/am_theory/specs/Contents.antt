@@ -1,5 +1,5 @@
 -- What a theory has, as data, and what a declaration adds to it.
-use Rattle.std.specs.Prelude.{◌+◌, ◌++◌, ℕ, ℤ, pos, negsuc, Option, Some, None, List, [], ◌∷◌, map, length, option_map}
+use Rattle.std.specs.Prelude.{◌+◌, ◌++◌, ℕ, ℤ, pos, negsuc, Option, Some, None, List, [], ◌∷◌, map, length, option_map, slice_get}
 use Rattle.am_term.specs.declared.id.SortId.{SortId}
 use Rattle.am_term.specs.declared.id.SymId.{SymId}
 use Rattle.am_term.specs.declared.kind.SymKind.TheVariants as kind
@@ -20,10 +20,12 @@ use Rattle.am_theory.specs.declared.declaration.WrittenRep.TheVariants as writte
 use Rattle.am_theory.specs.declared.declaration.Typed.{Typed}
 use Rattle.am_theory.specs.declared.declaration.Declaration.{Declaration}
 use Rattle.am_theory.specs.declared.declaration.Declaration.TheVariants as decl
+use Rattle.am_theory.specs.Lookups.{known}
 
--- The fields of a theory, each a list by order of declaration: the sorts' names, parents, representations
--- and copy routines, the symbols, the routines, the listed functions, the literals and the axioms.
+-- The fields of a theory: the version of its format, and lists by order of declaration: the sorts' names, parents,
+-- representations and copy routines, the symbols, the routines, the listed functions, the literals and the axioms.
 pub record Contents : Type 0 where
+  pub version : ℕ
   pub sorts : List (List ℕ)
   pub parents : List (Option SortId)
   pub reps : List (Option Rep)
@@ -37,6 +39,7 @@ pub record Contents : Type 0 where
 -- what a theory has
 abbrev pub contents : Theory → Contents
 contents t = record {
+  version = t.version;
   sorts = t.sig.sorts;
   parents = t.sig.parents;
   reps = t.reps;
@@ -48,9 +51,9 @@ contents t = record {
   axioms = t.axioms;
 }
 
--- before the first declaration
-abbrev pub nothing : Contents
-nothing = record { sorts = []; parents = []; reps = []; copies = []; symbols = []; routines = []; functions = []; literals = []; axioms = [] }
+-- before the first declaration of a file of this version
+abbrev pub nothing : ℕ → Contents
+nothing v = record { version = v; sorts = []; parents = []; reps = []; copies = []; symbols = []; routines = []; functions = []; literals = []; axioms = [] }
 
 abbrev pub id_of : Option ℕ → SortId
 id_of None = record { 0 = 0 }
@@ -59,6 +62,19 @@ id_of (Some k) = record { 0 = k }
 -- the sort of this name
 abbrev pub sort_number : Contents → List ℕ → SortId
 sort_number c w = id_of (position_of w c.sorts)
+
+-- what a list by sorts holds for the sort of this name, if there is such a sort
+abbrev pub of_sort : {A : Type 0} → List (Option A) → Option ℕ → Option A
+of_sort xs None = None
+of_sort xs (Some k) = known (slice_get xs k)
+
+-- the representation of the sort of this name, if it is concrete
+abbrev pub rep_named : Contents → List ℕ → Option Rep
+rep_named c w = of_sort c.reps (position_of w c.sorts)
+
+-- the copy routine of the sort of this name, if it has one
+abbrev pub copy_named : Contents → List ℕ → Option (List ℕ)
+copy_named c w = of_sort c.copies (position_of w c.sorts)
 
 abbrev pub sort_numbers : Contents → List (List ℕ) → List SortId
 sort_numbers c ws = map (sort_number c) ws
@@ -108,9 +124,15 @@ numbers_from k (o ∷ os) = record { 0 = k } ∷ numbers_from (k + 1) os
 abbrev pub variable_of : Contents → Typed → List ℕ × SortId
 variable_of c v = (v.name, sort_number c v.sort)
 
--- What there is after one more declaration. A routine's outputs are the next symbols, one after the other.
+-- one more sort
+abbrev pub with_sort : Contents → List ℕ → Option SortId → Option Rep → Option (List ℕ) → Contents
+with_sort c n parent r copy = record c { sorts = c.sorts ++ n ∷ []; parents = c.parents ++ parent ∷ []; reps = c.reps ++ r ∷ []; copies = c.copies ++ copy ∷ [] }
+
+-- What there is after one more declaration. A sort under another has the other's representation and copy routine. A
+-- routine's outputs are the next symbols, one after the other.
 unfoldable pub with_decl : Contents → Declaration → Contents
-with_decl c (decl.Sort n r copy) = record c { sorts = c.sorts ++ n ∷ []; parents = c.parents ++ None ∷ []; reps = c.reps ++ option_map rep_meaning r ∷ []; copies = c.copies ++ copy ∷ [] }
+with_decl c (decl.Sort n r copy) = with_sort c n None (option_map rep_meaning r) copy
+with_decl c (decl.Subsort n s) = with_sort c n (Some (sort_number c s)) (rep_named c s) (copy_named c s)
 with_decl c (decl.Function n args r) = with_symbol c (record { name = n; args = sort_numbers c args; result = Some (sort_number c r); kind = kind.Function })
 with_decl c (decl.Relation n args) = with_symbol c (record { name = n; args = sort_numbers c args; result = None; kind = kind.Relation })
 with_decl c (decl.Literal n s v) = record (with_symbol c (record { name = n; args = []; result = Some (sort_number c s); kind = kind.Literal })) { literals = c.literals ++ record { symbol = next_symbol c; value = v } ∷ [] }

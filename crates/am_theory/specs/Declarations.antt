@@ -8,13 +8,14 @@ use Rattle.am_text.specs.declared.form.FormNode.TheOpen.{FormNode-F}
 use Rattle.am_text.specs.declared.form.FormNode.TheViews.{out-FormNode}
 use Rattle.am_syntax.specs.declared.written.Words.TheVariants.{Names}
 use Rattle.am_syntax.specs.Shapes.{all_of, some_of, formula_of}
+use Rattle.am_syntax.specs.Heads.{word_at}
 use Rattle.am_theory.specs.declared.theory.LitValue.{LitValue}
 use Rattle.am_theory.specs.declared.theory.LitValue.TheVariants as value
 use Rattle.am_theory.specs.declared.declaration.WrittenRep.{WrittenRep}
 use Rattle.am_theory.specs.declared.declaration.WrittenRep.TheVariants as written
 use Rattle.am_theory.specs.declared.declaration.Typed.{Typed}
 use Rattle.am_theory.specs.declared.declaration.Declaration.{Declaration}
-use Rattle.am_theory.specs.declared.declaration.Declaration.TheVariants.{Sort, Function, Relation, Literal, Routine, Value, Axiom}
+use Rattle.am_theory.specs.declared.declaration.Declaration.TheVariants.{Sort, Subsort, Function, Relation, Literal, Routine, Value, Axiom}
 
 -- first one thing, and with what it gives another
 infixl 10 ◌>>=◌
@@ -23,12 +24,6 @@ abbrev pub ◌>>=◌ : {A B : Type 0} → Option A → (A → Option B) → Opti
 None >>= f = None
 
 -- ---- what a form is
-abbrev pub word_at : FormNode-F FormNode Form → Option (List ℕ)
-word_at (FormNode-F.Word w) = Some w
-word_at (FormNode-F.Number n) = None
-word_at (FormNode-F.Text t) = None
-word_at (FormNode-F.List fs) = None
-
 abbrev pub number_at : FormNode-F FormNode Form → Option ℤ
 number_at (FormNode-F.Word w) = None
 number_at (FormNode-F.Number n) = Some n
@@ -123,6 +118,12 @@ sort_decl (name ∷ rep ∷ []) = name_of name >>= λ n. written_rep_of rep >>= 
 sort_decl (name ∷ rep ∷ copy ∷ []) = name_of name >>= λ n. written_rep_of rep >>= λ r. word_of copy >>= λ c. Some (Sort n (Some r) (Some c))
 sort_decl (name ∷ rep ∷ copy ∷ f ∷ fs) = None
 
+abbrev pub subsort_decl : List Form → Option Declaration
+subsort_decl [] = None
+subsort_decl (name ∷ []) = None
+subsort_decl (name ∷ sort ∷ []) = name_of name >>= λ n. name_of sort >>= λ s. Some (Subsort n s)
+subsort_decl (name ∷ sort ∷ f ∷ fs) = None
+
 abbrev pub function_decl : List Form → Option Declaration
 function_decl [] = None
 function_decl (name ∷ []) = None
@@ -191,6 +192,7 @@ axiom_decl (formula ∷ f ∷ fs) = None
 abbrev pub decl_headed : List ℕ → List Form → Option Declaration
 decl_headed h rest =
     if bytes_eq h (codes "sort") then sort_decl rest
+    else if bytes_eq h (codes "subsort") then subsort_decl rest
     else if bytes_eq h (codes "function") then function_decl rest
     else if bytes_eq h (codes "relation") then relation_decl rest
     else if bytes_eq h (codes "literal") then literal_decl rest

@@ -1,5 +1,5 @@
 -- What holds of each theory that was read.
-use Rattle.std.specs.Prelude.{◌≡◌, ◌+◌, ◌<◌, ◌≤◌, ◌++◌, ◌==◌, ◌&&◌, ℕ, Bool, true, false, not, Option, Some, None, List, [], ◌∷◌, map, length, slice_get, is_some, nat_le, IsTrue}
+use Rattle.std.specs.Prelude.{◌≡◌, ◌⊎◌, ◌+◌, ◌<◌, ◌≤◌, ◌++◌, ◌==◌, ◌&&◌, ℕ, Bool, true, false, not, Option, Some, None, List, [], ◌∷◌, map, length, slice_get, is_some, nat_le, IsTrue}
 use Rattle.std.specs.List.{AllByRecursion, Contains, flat_map, list_all, list_any}
 use Rattle.am_term.specs.declared.id.SortId.{SortId}
 use Rattle.am_term.specs.declared.id.SymId.{SymId}
@@ -10,7 +10,7 @@ use Rattle.am_term.specs.Names.{is_name}
 use Rattle.am_term.specs.NameLists.{is_among, are_distinct}
 use Rattle.am_term.specs.Sorts.{akin}
 use Rattle.am_text.specs.Bytes.{is_text_byte}
-use Rattle.am_text.specs.Spelling.{fits}
+use Rattle.am_text.specs.Spelling.{fits_word}
 use Rattle.am_clause.specs.declared.clause.Clause.{Clause}
 use Rattle.am_clause.specs.ClauseForm.{cnf}
 use Rattle.am_term.specs.SortedFormula.{is_sorted_formula}
@@ -107,7 +107,7 @@ pub record IsFunction (t : Theory) (f : FortranFunction) : Type 0 where
   pub returnable : IsTrue (is_returnable (rep_of t stands.sort))
 
 abbrev pub is_value : LitValue → Bool
-is_value (value.Int n) = fits n
+is_value (value.Int n) = fits_word n
 is_value (value.Text x) = list_all is_text_byte x
 
 -- A literal's symbol is a constant, and its value suits the representation of its sort.
@@ -162,7 +162,12 @@ are_distinct_numbers (f ∷ fs) = not (is_number_among f fs) && are_distinct_num
 abbrev pub called_names : Theory → List (List ℕ)
 called_names t = map (λ (r : Routine). r.name) t.routines ++ map (λ (f : FortranFunction). f.name) t.functions
 
+-- a version of the format; in the first no sort has a parent
+abbrev pub HasVersion : Theory → Type 0
+HasVersion t = ((t.version ≡ 1) × AllByRecursion (λ (p : Option SortId). p ≡ None) t.sig.parents) ⊎ (t.version ≡ 2)
+
 pub record WellFormed (t : Theory) : Type 0 where
+  pub version : HasVersion t
   -- each sort has a place in both lists, its name is a name, and no two sorts have one name
   pub reps : length t.reps ≡ length t.sig.sorts
   pub copies : length t.copies ≡ length t.sig.sorts

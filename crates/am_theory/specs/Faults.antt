@@ -1,6 +1,6 @@
 -- When a declaration has a fault, in the light of what the earlier ones declared: each kind is a condition
 -- of its own on the whole declaration. A kind is asked only where no earlier one holds.
-use Rattle.std.specs.Prelude.{◌||◌, ◌&&◌, ◌+◌, ℕ, ℤ, pos, negsuc, Bool, true, false, not, Option, Some, None, List, ◌++◌, map, length, is_none, is_some, nat_lt, nat_le, slice_get, if◌then◌else◌}
+use Rattle.std.specs.Prelude.{◌||◌, ◌&&◌, ◌+◌, ℕ, ℤ, pos, negsuc, Bool, true, false, not, Option, Some, None, List, ◌++◌, map, length, is_none, is_some, nat_lt, nat_le, if◌then◌else◌}
 use Rattle.std.specs.Ordering.{int_eq}
 use Rattle.std.specs.List.{list_any, flat_map}
 use Rattle.std.specs.Str.{bytes_eq}
@@ -15,7 +15,6 @@ use Rattle.am_clause.specs.ClauseForm.{cnf}
 use Rattle.am_clause.specs.Count.{count}
 use Rattle.am_syntax.specs.declared.written.WrittenFormula.{WrittenFormula}
 use Rattle.am_syntax.specs.declared.scope.Flaw.TheVariants as flaw
-use Rattle.am_syntax.specs.Positions.{position_of}
 use Rattle.am_syntax.specs.Scopes.{symbol_at, result_of}
 use Rattle.am_syntax.specs.Flaws.{formula_has, has_quantifier}
 use Rattle.am_syntax.specs.Meaning.{formula_meaning}
@@ -33,9 +32,9 @@ use Rattle.am_theory.specs.declared.declaration.Typed.{Typed}
 use Rattle.am_theory.specs.declared.declaration.Declaration.{Declaration}
 use Rattle.am_theory.specs.declared.declaration.Declaration.TheVariants as decl
 use Rattle.am_theory.specs.declared.fault.TheoryKind.{TheoryKind}
-use Rattle.am_theory.specs.declared.fault.TheoryKind.TheVariants.{UnknownName, Twice, BadSort, BadArity, BadRep, NoCopy, BadFortranName, NameClash, Unbound, Quantifier, Limit}
-use Rattle.am_theory.specs.Lookups.{known, listed_name}
-use Rattle.am_theory.specs.Contents.{Contents, sort_number, symbol_names, axiom_scope}
+use Rattle.am_theory.specs.declared.fault.TheoryKind.TheVariants.{BadHead, UnknownName, Twice, BadSort, BadArity, BadRep, NoCopy, BadFortranName, NameClash, Unbound, Quantifier, Limit}
+use Rattle.am_theory.specs.Lookups.{listed_name}
+use Rattle.am_theory.specs.Contents.{Contents, sort_number, rep_named, symbol_names, axiom_scope}
 use Rattle.am_theory.specs.Limits.{sort_limit, symbol_limit, axiom_limit, variable_limit, clause_limit, literal_limit, argument_limit, output_limit, call_limit, length_limit, extent_limit, text_limit}
 
 abbrev pub names_in : List Typed → List (List ℕ)
@@ -44,6 +43,17 @@ names_in = map (λ (v : Typed). v.name)
 abbrev pub sorts_in : List Typed → List (List ℕ)
 sorts_in = map (λ (v : Typed). v.sort)
 
+-- ---- BadHead: a subsort stands in a file of version 1
+abbrev pub is_early : ℕ → Declaration → Bool
+is_early v (decl.Sort n r copy) = false
+is_early v (decl.Subsort n s) = nat_lt v 2
+is_early v (decl.Function n args r) = false
+is_early v (decl.Relation n args) = false
+is_early v (decl.Literal n s x) = false
+is_early v (decl.Routine n inputs outputs) = false
+is_early v (decl.Value f n args r) = false
+is_early v (decl.Axiom vs g) = false
+
 -- ---- UnknownName: a sort, or the head of a list in a formula or term, isn't declared; the name alone in a
 -- formula's place isn't declared
 abbrev pub is_unknown_sort : Contents → List ℕ → Bool
@@ -51,6 +61,7 @@ is_unknown_sort c w = not (is_among w c.sorts)
 
 unfoldable pub has_unknown_name : Contents → Declaration → Bool
 has_unknown_name c (decl.Sort n r copy) = false
+has_unknown_name c (decl.Subsort n s) = is_unknown_sort c s
 has_unknown_name c (decl.Function n args r) = list_any (is_unknown_sort c) args || is_unknown_sort c r
 has_unknown_name c (decl.Relation n args) = list_any (is_unknown_sort c) args
 has_unknown_name c (decl.Literal n s v) = is_unknown_sort c s
@@ -60,7 +71,7 @@ has_unknown_name c (decl.Axiom vs g) = list_any (is_unknown_sort c) (sorts_in vs
 
 -- ---- Twice: a sort's name is a sort already; a symbol's name is a symbol already, is the name of a variable of
 -- an earlier axiom, or stands twice in the declaration; a variable's name stands twice or is a symbol; a
--- literal's sort and value are those of an earlier literal
+-- literal's value is that of an earlier literal whose sort is akin to its own
 abbrev pub axiom_names : Axiom → List (List ℕ)
 axiom_names a = map (λ (v : List ℕ × SortId). v.0) a.vars
 
@@ -96,6 +107,7 @@ is_literal_of c s v l = same_value v l.value && is_akin_to c.parents s (sort_of_
 
 unfoldable pub is_twice : Contents → Declaration → Bool
 is_twice c (decl.Sort n r copy) = is_among n c.sorts
+is_twice c (decl.Subsort n s) = is_among n c.sorts
 is_twice c (decl.Function n args r) = is_taken c n
 is_twice c (decl.Relation n args) = is_taken c n
 is_twice c (decl.Literal n s v) = is_taken c n || list_any (is_literal_of c (sort_number c s) v) c.literals
@@ -106,6 +118,7 @@ is_twice c (decl.Axiom vs g) = list_any (is_symbol_name c) (names_in vs) || not 
 -- ---- BadSort, BadArity, Unbound: what an axiom's formula may have; Quantifier: `all` inside it, or `exists`
 abbrev pub axiom_has : (Contents → List Typed → WrittenFormula → Bool) → Contents → Declaration → Bool
 axiom_has test c (decl.Sort n r copy) = false
+axiom_has test c (decl.Subsort n s) = false
 axiom_has test c (decl.Function n args r) = false
 axiom_has test c (decl.Relation n args) = false
 axiom_has test c (decl.Literal n s v) = false
@@ -156,14 +169,6 @@ abbrev pub is_bad_sort_rep : Option WrittenRep → Option (List ℕ) → Bool
 is_bad_sort_rep None copy = false
 is_bad_sort_rep (Some r) copy = is_bad_rep r || (not (is_array r) && is_some copy)
 
-abbrev pub rep_at : List (Option Rep) → Option ℕ → Option Rep
-rep_at reps None = None
-rep_at reps (Some k) = known (slice_get reps k)
-
--- the representation of the sort of this name, if it is concrete
-abbrev pub rep_named : Contents → List ℕ → Option Rep
-rep_named c w = rep_at c.reps (position_of w c.sorts)
-
 abbrev pub is_abstract : Contents → List ℕ → Bool
 is_abstract c w = is_none (rep_named c w)
 
@@ -199,6 +204,7 @@ is_returnable (Some (rep.IntegerVec m)) = false
 
 unfoldable pub is_badly_represented : Contents → Declaration → Bool
 is_badly_represented c (decl.Sort n r copy) = is_bad_sort_rep r copy
+is_badly_represented c (decl.Subsort n s) = false
 is_badly_represented c (decl.Function n args r) = false
 is_badly_represented c (decl.Relation n args) = false
 is_badly_represented c (decl.Literal n s v) = not (suits v (rep_named c s))
@@ -213,6 +219,7 @@ is_array_rep (Some r) = is_array r
 
 unfoldable pub lacks_copy : Declaration → Bool
 lacks_copy (decl.Sort n r copy) = is_array_rep r && is_none copy
+lacks_copy (decl.Subsort n s) = false
 lacks_copy (decl.Function n args r) = false
 lacks_copy (decl.Relation n args) = false
 lacks_copy (decl.Literal n s v) = false
@@ -231,6 +238,7 @@ is_bad_copy_name (Some n) = not (is_free_name n)
 
 unfoldable pub has_bad_fortran_name : Declaration → Bool
 has_bad_fortran_name (decl.Sort n r copy) = is_bad_copy_name copy
+has_bad_fortran_name (decl.Subsort n s) = false
 has_bad_fortran_name (decl.Function n args r) = false
 has_bad_fortran_name (decl.Relation n args) = false
 has_bad_fortran_name (decl.Literal n s v) = false
@@ -255,6 +263,7 @@ copy_clashes c (Some n) = is_among n (called_names c)
 
 unfoldable pub clashes : Contents → Declaration → Bool
 clashes c (decl.Sort n r copy) = copy_clashes c copy
+clashes c (decl.Subsort n s) = false
 clashes c (decl.Function n args r) = false
 clashes c (decl.Relation n args) = false
 clashes c (decl.Literal n s v) = false
@@ -275,6 +284,7 @@ is_past_symbols c more = nat_lt symbol_limit (length c.symbols + more)
 
 unfoldable pub is_over_limit : Contents → Declaration → Bool
 is_over_limit c (decl.Sort n r copy) = nat_lt sort_limit (length c.sorts + 1)
+is_over_limit c (decl.Subsort n s) = nat_lt sort_limit (length c.sorts + 1)
 is_over_limit c (decl.Function n args r) = is_past_symbols c 1 || nat_lt argument_limit (length args)
 is_over_limit c (decl.Relation n args) = is_past_symbols c 1 || nat_lt argument_limit (length args)
 is_over_limit c (decl.Literal n s v) = is_past_symbols c 1
@@ -285,7 +295,8 @@ is_over_limit c (decl.Axiom vs g) = nat_lt axiom_limit (length c.axioms + 1) || 
 -- the first kind that holds of a declaration
 unfoldable pub first_kind : Contents → Declaration → Option TheoryKind
 first_kind c d =
-    if has_unknown_name c d then Some UnknownName
+    if is_early c.version d then Some BadHead
+    else if has_unknown_name c d then Some UnknownName
     else if is_twice c d then Some Twice
     else if has_bad_sort c d then Some BadSort
     else if has_bad_arity c d then Some BadArity

@@ -16,25 +16,25 @@ use Rattle.am_theory.specs.declared.theory.Theory.{Theory}
 abbrev pub sort_name : Signature → SortId → List ℕ
 sort_name sig s = slice_index_or sig.sorts s.0 []
 
-abbrev pub name_of : Option Symbol → List ℕ
-name_of None = []
-name_of (Some y) = y.name
+abbrev pub symbol_name_of : Option Symbol → List ℕ
+symbol_name_of None = []
+symbol_name_of (Some y) = y.name
 
 abbrev pub result_of : Option Symbol → Option SortId
 result_of None = None
 result_of (Some y) = y.result
 
-abbrev pub args_of : Option Symbol → List SortId
-args_of None = []
-args_of (Some y) = y.args
+abbrev pub argument_sorts_of : Option Symbol → List SortId
+argument_sorts_of None = []
+argument_sorts_of (Some y) = y.args
 
 -- the sorts of a symbol's arguments
 abbrev pub argument_sorts : Signature → SymId → List SortId
-argument_sorts sig f = args_of (slice_get sig.symbols f.0)
+argument_sorts sig f = argument_sorts_of (slice_get sig.symbols f.0)
 
 -- the name of a symbol
 abbrev pub symbol_name : Signature → SymId → List ℕ
-symbol_name sig f = name_of (slice_get sig.symbols f.0)
+symbol_name sig f = symbol_name_of (slice_get sig.symbols f.0)
 
 -- the result sort of a symbol; a relation has none
 abbrev pub result_sort : Signature → SymId → Option SortId
@@ -68,8 +68,8 @@ abbrev pub function_named : Theory → List ℕ → Option FortranFunction
 function_named t n = find (λ (f : FortranFunction). bytes_eq f.name n) t.functions
 
 -- the literal of a symbol
-abbrev pub literal_of : Theory → SymId → Option LiteralDecl
-literal_of t f = find (λ (l : LiteralDecl). l.symbol.0 == f.0) t.literals
+abbrev pub literal_declared : Theory → SymId → Option LiteralDecl
+literal_declared t f = find (λ (l : LiteralDecl). l.symbol.0 == f.0) t.literals
 
 abbrev pub listed_name : Option (List ℕ) → List (List ℕ)
 listed_name None = []

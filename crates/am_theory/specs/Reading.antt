@@ -45,9 +45,12 @@ read_from c (f ∷ fs) = declared c f >>= λ next. read_from next fs
 
 abbrev pub versioned : ℕ → Option ℤ → List Form → Result Contents TheoryFault
 versioned p None fs = fault p BadHead
-versioned p (Some n) fs = if int_eq n (pos 1) then read_from nothing fs else fault p Version
+versioned p (Some n) fs =
+    if int_eq n (pos 1) then read_from (nothing 1) fs
+    else if int_eq n (pos 2) then read_from (nothing 2) fs
+    else fault p Version
 
--- `(theory 1)` and then declarations; the length of the file is the place of a missing first form
+-- `(theory 1)` or `(theory 2)` and then declarations; the length of the file is the place of a missing first form
 unfoldable pub forms_theory : ℕ → List Form → Result Contents TheoryFault
 forms_theory size [] = fault size BadHead
 forms_theory size (f ∷ fs) = versioned f.place (version_of f) fs

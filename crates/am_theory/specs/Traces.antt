@@ -4,7 +4,7 @@ use Rattle.std.specs.List.{list_all}
 use Rattle.am_term.specs.Names.{is_name}
 use Rattle.am_text.specs.declared.form.Form.{Form}
 use Rattle.am_text.specs.Grammar.{height}
-use Rattle.am_text.specs.Spelling.{is_word, is_text, fits, is_writable}
+use Rattle.am_text.specs.Spelling.{is_word, is_text, fits_word, is_writable}
 use Rattle.am_syntax.specs.Forms.{is_some_list}
 use Rattle.am_theory.specs.declared.theory.LitValue.{LitValue}
 use Rattle.am_theory.specs.declared.theory.LitValue.TheVariants as value
@@ -36,10 +36,10 @@ abbrev pub fits_rep : WrittenRep → Bool
 fits_rep written.Double = true
 fits_rep written.Integer = true
 fits_rep written.Logical = true
-fits_rep (written.Char n) = fits n
-fits_rep (written.DoubleVec m) = fits m
-fits_rep (written.DoubleMat m n) = fits m && fits n
-fits_rep (written.IntegerVec m) = fits m
+fits_rep (written.Char n) = fits_word n
+fits_rep (written.DoubleVec m) = fits_word m
+fits_rep (written.DoubleMat m n) = fits_word m && fits_word n
+fits_rep (written.IntegerVec m) = fits_word m
 
 -- a copy routine stands behind a representation alone
 abbrev pub is_rep_with : Option WrittenRep → Option (List ℕ) → Bool
@@ -49,13 +49,14 @@ is_rep_with (Some r) (Some w) = fits_rep r && is_word w
 
 -- a number fits 64 bits, a text has at most 255 bytes, each of them allowed
 abbrev pub is_written_value : LitValue → Bool
-is_written_value (value.Int n) = fits n
+is_written_value (value.Int n) = fits_word n
 is_written_value (value.Text t) = is_text t
 
 -- The names of a declaration are names, its FORTRAN names are words, its numbers fit 64 bits, its text may be a
 -- text, and a routine has one or more outputs.
 abbrev pub IsWritten : Declaration → Type 0
 IsWritten (decl.Sort n r copy) = IsTrue (is_name n) × IsTrue (is_rep_with r copy)
+IsWritten (decl.Subsort n s) = IsTrue (is_name n) × IsTrue (is_name s)
 IsWritten (decl.Function n args r) = IsTrue (is_name n) × IsTrue (list_all is_name args) × IsTrue (is_name r)
 IsWritten (decl.Relation n args) = IsTrue (is_name n) × IsTrue (list_all is_name args)
 IsWritten (decl.Literal n s v) = IsTrue (is_name n) × IsTrue (is_name s) × IsTrue (is_written_value v)

@@ -5,7 +5,7 @@ ghost use Rattle.am_syntax.specs.Scopes.{profile};
 ghost use Rattle.am_theory.specs.declared.fault.TheoryKind.{TheoryKind};
 ghost use Rattle.am_theory.specs.declared.declaration.Typed.{Typed};
 ghost use Rattle.am_theory.specs.Contents.{contents, axiom_scope, sort_numbers, next_symbol, with_symbol, output_profile, numbers_from, variable_of, extent, rep_meaning, with_decl};
-ghost use Rattle.am_theory.specs.Faults.{names_in, axiom_names, is_bad_rep, first_kind};
+ghost use Rattle.am_theory.specs.Faults.{names_in, axiom_names, is_bad_rep, is_unknown_sort, first_kind};
 ghost use Rattle.am_theory.specs.Additions.{with_named_sort, with_copy, with_outputs, with_listed, with_called, with_law};
 
 use crate::declaration::{Declaration, Typed, WrittenRep};
@@ -30,6 +30,7 @@ pub fn add_declaration(
 {
     match declaration {
         Declaration::Sort { name, rep, copy } => add_sort(alloc, tables, name, rep, copy),
+        Declaration::Subsort { name, sort } => add_subsort(alloc, tables, name, &sort),
         Declaration::Function { name, args, result } => {
             add_function(alloc, tables, name, args.as_slice(), &result)
         }
@@ -110,17 +111,18 @@ fn sort_rep(rep: Option<WrittenRep>) -> Option<Rep>
     }
 }
 
-// A sort without a parent behind the others. Without memory neither sorts nor names are left.
+// A sort with its parent behind the others. Without memory neither sorts nor names are left.
 fn push_sort(
     alloc: Global,
     names: &mut NameTable,
     sorts: &mut Items<Name>,
     parents: &mut Items<Option<SortId>>,
     sort: Name,
+    parent: Option<SortId>,
 ) -> Result<(), NoMemory>
     ensures named { OnOk result (names.new.names ≡ names.old.names ++ sort ∷ []) }
     ensures listed { OnOk result (sorts.new ≡ sorts.old ++ sort ∷ []) }
-    ensures orphaned { OnOk result (parents.new ≡ parents.old ++ None ∷ []) }
+    ensures placed { OnOk result (parents.new ≡ parents.old ++ parent ∷ []) }
     ensures nameless { OnErr result (names.new.names ≡ []) }
     ensures empty { OnErr result (sorts.new ≡ []) }
     ensures unrelated { OnErr result (parents.new ≡ []) }
@@ -130,15 +132,21 @@ fn push_sort(
     let mut above = mem::replace(parents, Items::new(alloc));
     let table = table.appending(alloc, &sort)?;
     list.push(sort)?;
-    above.push(None)?;
+    above.push(parent)?;
     *names = table;
     *sorts = list;
     *parents = above;
     Ok(())
 }
 
-fn add_named_sort(alloc: Global, tables: &mut Tables, name: Name) -> Result<(), NoMemory>
-    ensures { OnOk result (contents tables.new.theory ≡ with_named_sort (contents tables.old.theory) name) }
+fn add_named_sort(
+    alloc: Global,
+    tables: &mut Tables,
+    name: Name,
+    parent: Option<SortId>,
+) -> Result<(), NoMemory>
+    requires { IfSome parent (λ p. p.0 < length (contents tables.now.theory).sorts) }
+    ensures { OnOk result (contents tables.new.theory ≡ with_named_sort (contents tables.old.theory) name parent) }
 {
     push_sort(
         alloc,
@@ -146,6 +154,7 @@ fn add_named_sort(alloc: Global, tables: &mut Tables, name: Name) -> Result<(), 
         &mut tables.theory.sig.sorts,
         &mut tables.theory.sig.parents,
         name,
+        parent,
     )
 }
 
@@ -175,11 +184,29 @@ fn add_sort(
     copy: Option<Name>,
 ) -> Result<(), NoMemory>
     requires { IfSome rep (λ r. is_bad_rep r ≡ false) }
-    ensures { OnOk result (contents tables.new.theory ≡ with_decl (contents tables.old.theory) (Declaration.Sort name rep copy)) }
+    ensures { OnOk result (contents tables.new.theory ≡ with_decl (contents tables.old.theory)
+        (Declaration.Sort name rep copy)) }
 {
     tables.theory.reps.push(sort_rep(rep))?;
     add_copy(alloc, tables, copy)?;
-    add_named_sort(alloc, tables, name)
+    add_named_sort(alloc, tables, name, None)
+}
+
+#[tactic(auto, unfolding(crate::specs::Contents::with_decl))]
+fn add_subsort(alloc: Global, tables: &mut Tables, name: Name, sort: &Name) -> Result<(), NoMemory>
+    requires { is_unknown_sort (contents tables.now.theory) sort.now ≡ false }
+    ensures { OnOk result (contents tables.new.theory ≡ with_decl (contents tables.old.theory)
+        (Declaration.Subsort name sort.now)) }
+{
+    let parent = tables.sort_number(sort);
+    let rep = tables.rep_named(sort);
+    let copy = match tables.copy_named(sort) {
+        Some(routine) => Some(Name::new(alloc, routine.as_str())?),
+        None => None,
+    };
+    tables.theory.reps.push(rep)?;
+    add_copy(alloc, tables, copy)?;
+    add_named_sort(alloc, tables, name, Some(parent))
 }
 
 fn sort_numbers(alloc: Global, tables: &Tables, names: &[Name]) -> Result<Items<SortId>, NoMemory>
@@ -224,7 +251,8 @@ fn add_function(
     args: &[Name],
     sort: &Name,
 ) -> Result<(), NoMemory>
-    ensures { OnOk result (contents tables.new.theory ≡ with_decl (contents tables.old.theory) (Declaration.Function name args.now sort.now)) }
+    ensures { OnOk result (contents tables.new.theory ≡ with_decl (contents tables.old.theory)
+        (Declaration.Function name args.now sort.now)) }
 {
     let symbol = Symbol {
         name,
@@ -242,7 +270,8 @@ fn add_relation(
     name: Name,
     args: &[Name],
 ) -> Result<(), NoMemory>
-    ensures { OnOk result (contents tables.new.theory ≡ with_decl (contents tables.old.theory) (Declaration.Relation name args.now)) }
+    ensures { OnOk result (contents tables.new.theory ≡ with_decl (contents tables.old.theory)
+        (Declaration.Relation name args.now)) }
 {
     let symbol = Symbol {
         name,
@@ -261,7 +290,8 @@ fn add_literal(
     sort: &Name,
     value: LitValue,
 ) -> Result<(), NoMemory>
-    ensures { OnOk result (contents tables.new.theory ≡ with_decl (contents tables.old.theory) (Declaration.Literal name sort.now value)) }
+    ensures { OnOk result (contents tables.new.theory ≡ with_decl (contents tables.old.theory)
+        (Declaration.Literal name sort.now value)) }
 {
     let number = next_symbol(tables)?;
     let symbol = Symbol {
@@ -303,7 +333,8 @@ fn add_output(
     inputs: &[Name],
     output: &Typed,
 ) -> Result<(), NoMemory>
-    ensures { OnOk result (contents tables.new.theory ≡ with_symbol (contents tables.old.theory) (output_profile (contents tables.old.theory) inputs.now output.now)) }
+    ensures { OnOk result (contents tables.new.theory ≡ with_symbol (contents tables.old.theory)
+        (output_profile (contents tables.old.theory) inputs.now output.now)) }
 {
     let symbol = Symbol {
         name: Name::new(alloc, output.name.as_str())?,
@@ -320,7 +351,8 @@ fn add_outputs(
     inputs: &[Name],
     outputs: &[Typed],
 ) -> Result<(), NoMemory>
-    ensures { OnOk result (contents tables.new.theory ≡ with_outputs (contents tables.old.theory) inputs.now outputs.now) }
+    ensures { OnOk result (contents tables.new.theory ≡ with_outputs
+        (contents tables.old.theory) inputs.now outputs.now) }
 {
     let mut rest = outputs;
     while let [output, behind @ ..] = rest {
@@ -350,7 +382,8 @@ fn add_routine(
     inputs: &[Name],
     outputs: &[Typed],
 ) -> Result<(), NoMemory>
-    ensures { OnOk result (contents tables.new.theory ≡ with_decl (contents tables.old.theory) (Declaration.Routine name inputs.now outputs.now)) }
+    ensures { OnOk result (contents tables.new.theory ≡ with_decl (contents tables.old.theory)
+        (Declaration.Routine name inputs.now outputs.now)) }
 {
     let routine = Routine {
         name,
@@ -387,7 +420,8 @@ fn add_value(
     args: &[Name],
     sort: &Name,
 ) -> Result<(), NoMemory>
-    ensures { OnOk result (contents tables.new.theory ≡ with_decl (contents tables.old.theory) (Declaration.Value function name args.now sort.now)) }
+    ensures { OnOk result (contents tables.new.theory ≡ with_decl (contents tables.old.theory)
+        (Declaration.Value function name args.now sort.now)) }
 {
     let listed = FortranFunction {
         name: function,
@@ -424,7 +458,8 @@ fn with_variables(
     variables: NameTable,
     typed: &[Typed],
 ) -> Result<NameTable, NoMemory>
-    ensures { IfOk result (λ t. (q : List ℕ) → is_among q t.names ≡ (is_among q (names_in typed.now) || is_among q variables.names)) }
+    ensures { IfOk result (λ t. (q : List ℕ)
+        → is_among q t.names ≡ (is_among q (names_in typed.now) || is_among q variables.names)) }
 {
     let mut variables = variables;
     for one in typed {
@@ -441,7 +476,8 @@ fn push_axiom(
     typed: &[Typed],
     added: Axiom,
 ) -> Result<(), NoMemory>
-    ensures named { OnOk result ((q : List ℕ) → is_among q names.new.names ≡ (is_among q (names_in typed.now) || is_among q names.old.names)) }
+    ensures named { OnOk result ((q : List ℕ)
+        → is_among q names.new.names ≡ (is_among q (names_in typed.now) || is_among q names.old.names)) }
     ensures listed { OnOk result (axioms.new ≡ axioms.old ++ added ∷ []) }
     ensures nameless { OnErr result (names.new.names ≡ []) }
     ensures empty { OnErr result (axioms.new ≡ []) }
@@ -480,7 +516,8 @@ fn add_axiom(
     typed: &[Typed],
     formula: &WrittenFormula,
 ) -> Result<(), NoMemory>
-    ensures { OnOk result (contents tables.new.theory ≡ with_decl (contents tables.old.theory) (Declaration.Axiom typed.now formula.now)) }
+    ensures { OnOk result (contents tables.new.theory ≡ with_decl (contents tables.old.theory)
+        (Declaration.Axiom typed.now formula.now)) }
 {
     let vars = typed_numbers(alloc, tables, typed)?;
     let formula = axiom_meaning(alloc, tables, typed, formula)?;

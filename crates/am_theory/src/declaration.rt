@@ -30,6 +30,10 @@ pub enum Declaration {
         rep: Option<WrittenRep>,
         copy: Option<Name>,
     },
+    Subsort {
+        name: Name,
+        sort: Name,
+    },
     Function {
         name: Name,
         args: Items<Name>,

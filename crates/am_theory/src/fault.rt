@@ -11,16 +11,17 @@ use std::alloc::AllocError;
 pub enum TheoryKind {
     /// The text isn't made of forms; the kind of its fault, which is never `NoMemory`.
     Text(TextKind),
-    /// There is no first form, the first form isn't `(theory n)`, or a later one has no shape of a
-    /// declaration.
+    /// There is no first form, the first form isn't `(theory n)`, a later one has no shape of a
+    /// declaration, or a subsort stands in a file of version 1.
     BadHead,
-    /// The version isn't 1.
+    /// The version is neither 1 nor 2.
     Version,
     /// A sort, or the head of a list or a name alone in a formula's place, isn't declared.
     UnknownName,
-    /// A name is declared already, or stands twice; or a literal has sort and value of an earlier one.
+    /// A name is declared already, or stands twice; or a literal has the value of an earlier one and a sort akin to
+    /// its.
     Twice,
-    /// A term's sort isn't that of its place, or a relation stands as a term, or a function as an atom.
+    /// A term's sort doesn't fit its place, or a relation stands as a term, or a function as an atom.
     BadSort,
     /// A symbol has another number of arguments than declared.
     BadArity,

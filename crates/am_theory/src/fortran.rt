@@ -13,6 +13,7 @@ pub fn has_bad_fortran_name(declaration: &Declaration) -> bool
 {
     match declaration {
         Declaration::Sort { copy, .. } => is_bad_copy_name(copy),
+        Declaration::Subsort { .. } => false,
         Declaration::Function { .. } => false,
         Declaration::Relation { .. } => false,
         Declaration::Literal { .. } => false,
@@ -45,6 +46,7 @@ pub fn clashes(tables: &Tables, declaration: &Declaration) -> bool
 {
     match declaration {
         Declaration::Sort { copy, .. } => copy_clashes(tables, copy),
+        Declaration::Subsort { .. } => false,
         Declaration::Function { .. } => false,
         Declaration::Relation { .. } => false,
         Declaration::Literal { .. } => false,

@@ -6,7 +6,7 @@ ghost use Rattle.am_syntax.specs.Scopes.{scope_of};
 ghost use Rattle.am_theory.specs.declared.declaration.Typed.{Typed};
 ghost use Rattle.am_theory.specs.AxiomScope.{variables_in, scope_in};
 ghost use Rattle.am_theory.specs.Contents.{contents, bound_from, sort_number};
-ghost use Rattle.am_theory.specs.Faults.{names_in, has_unknown_name, is_unknown_sort, is_symbol_name, is_taken, same_value, is_akin_to, sort_of_symbol, is_literal_of, is_twice, has_bad_sort, has_bad_arity, has_unbound, quantifies, first_kind};
+ghost use Rattle.am_theory.specs.Faults.{is_early, names_in, has_unknown_name, is_unknown_sort, is_symbol_name, is_taken, same_value, is_akin_to, sort_of_symbol, is_literal_of, is_twice, has_bad_sort, has_bad_arity, has_unbound, quantifies, first_kind};
 
 use crate::declaration::{Declaration, Typed};
 use crate::fault::TheoryKind;
@@ -29,6 +29,9 @@ pub fn first_kind(
 ) -> Result<Option<TheoryKind>, NoMemory>
     ensures { IfOk result (λ kind. kind ≡ first_kind (contents tables.now.theory) declaration.now) }
 {
+    if is_early(tables.theory.version, declaration) {
+        return Ok(Some(TheoryKind::BadHead));
+    }
     let bound = bound_in(alloc, tables, declaration)?;
     let scope = Scope {
         sig: &tables.theory.sig,
@@ -77,7 +80,8 @@ fn bound_in(
     tables: &Tables,
     declaration: &Declaration,
 ) -> Result<BoundTable, NoMemory>
-    ensures { IfOk result (λ bs. bs.entries ≡ bound_from (contents tables.now.theory) 0 (variables_in declaration.now)) }
+    ensures { IfOk result (λ bs. bs.entries ≡ bound_from (contents tables.now.theory) 0
+        (variables_in declaration.now)) }
 {
     match declaration {
         Declaration::Axiom { variables, .. } => bound_from(alloc, tables, variables.as_slice()),
@@ -106,6 +110,16 @@ pub fn bound_from(
     Ok(made)
 }
 
+// Whether the declaration is none of a file of this version.
+fn is_early(version: u32, declaration: &Declaration) -> bool
+    ensures { result ≡ is_early version declaration.now }
+{
+    match declaration {
+        Declaration::Subsort { .. } => version < 2,
+        _ => false,
+    }
+}
+
 #[tactic(auto, unfolding(crate::specs::Faults::has_unknown_name), using(crate::proofs::KindSteps::kind_steps))]
 fn has_unknown_name(tables: &Tables, scope: &Scope, declaration: &Declaration) -> bool
     requires { scope_of scope.now ≡ scope_in (contents tables.now.theory) declaration.now }
@@ -113,6 +127,7 @@ fn has_unknown_name(tables: &Tables, scope: &Scope, declaration: &Declaration) -
 {
     match declaration {
         Declaration::Sort { .. } => false,
+        Declaration::Subsort { sort, .. } => tables.is_unknown_sort(sort),
         Declaration::Function { args, result, .. } => {
             has_unknown_sort(tables, args.as_slice()) || tables.is_unknown_sort(result)
         }
@@ -154,6 +169,7 @@ fn is_twice(alloc: Global, tables: &Tables, declaration: &Declaration) -> Result
 {
     match declaration {
         Declaration::Sort { name, .. } => Ok(tables.sorts.contains(name)),
+        Declaration::Subsort { name, .. } => Ok(tables.sorts.contains(name)),
         Declaration::Function { name, .. } => Ok(tables.is_taken(name)),
         Declaration::Relation { name, .. } => Ok(tables.is_taken(name)),
         Declaration::Literal { name, sort, value } => {
@@ -202,7 +218,8 @@ fn are_distinct(alloc: Global, typed: &[Typed]) -> Result<bool, NoMemory>
 }
 
 fn has_literal(tables: &Tables, sort: SortId, value: &LitValue) -> bool
-    ensures { result ≡ list_any (is_literal_of (contents tables.now.theory) sort value.now) (contents tables.now.theory).literals }
+    ensures { result ≡ list_any (is_literal_of (contents tables.now.theory) sort value.now)
+        (contents tables.now.theory).literals }
 {
     let literals = tables.theory.literals.as_slice();
     literals
@@ -230,7 +247,8 @@ fn same_value(value: &LitValue, other: &LitValue) -> bool
 // Whether the sort is akin to that of the symbol.
 #[tactic(auto, using(crate::proofs::KindSteps::kind_steps))]
 fn is_akin_to(tables: &Tables, sort: SortId, symbol: SymId) -> bool
-    ensures { result ≡ is_akin_to (contents tables.now.theory).parents sort (sort_of_symbol (contents tables.now.theory) symbol) }
+    ensures { result ≡ is_akin_to (contents tables.now.theory).parents sort
+        (sort_of_symbol (contents tables.now.theory) symbol) }
 {
     match tables.theory.sig.symbols.get(symbol.0 as usize) {
         Some(symbol) => match symbol.result {

@@ -1,8 +1,8 @@
-ghost use Rattle.std.specs.Prelude.{◌≡◌, ◌||◌, ◌+◌, IfOk, nat_lt};
+ghost use Rattle.std.specs.Prelude.{◌≡◌, ◌||◌, ◌+◌, IfOk, length, nat_lt};
 ghost use Rattle.am_syntax.specs.Scopes.{scope_of};
 ghost use Rattle.am_theory.specs.AxiomScope.{scope_in};
 ghost use Rattle.am_theory.specs.Contents.{contents};
-ghost use Rattle.am_theory.specs.Limits.{argument_limit, output_limit, call_limit};
+ghost use Rattle.am_theory.specs.Limits.{sort_limit, argument_limit, output_limit, call_limit};
 ghost use Rattle.am_theory.specs.Faults.{is_past_symbols, is_over_limit};
 
 use crate::declaration::Declaration;
@@ -40,7 +40,8 @@ pub fn is_over_limit(
     ensures { IfOk result (λ over. over ≡ is_over_limit (contents tables.now.theory) declaration.now) }
 {
     match declaration {
-        Declaration::Sort { .. } => Ok(tables.theory.sig.sorts.len() >= SORT_LIMIT),
+        Declaration::Sort { .. } => Ok(has_all_sorts(tables)),
+        Declaration::Subsort { .. } => Ok(has_all_sorts(tables)),
         Declaration::Function { args, .. } => {
             Ok(is_past_symbols(tables, 1) || args.len() > ARGUMENT_LIMIT)
         }
@@ -75,7 +76,15 @@ fn is_past_symbols(tables: &Tables, more: usize) -> bool
 }
 
 fn is_long_call(inputs: usize, outputs: usize) -> bool
-    ensures { result ≡ (nat_lt argument_limit inputs || (nat_lt output_limit outputs || nat_lt call_limit (inputs + outputs))) }
+    ensures { result ≡ (nat_lt argument_limit inputs || (nat_lt output_limit outputs || nat_lt call_limit
+        (inputs + outputs))) }
 {
     inputs > ARGUMENT_LIMIT || (outputs > OUTPUT_LIMIT || inputs + outputs > CALL_LIMIT)
+}
+
+// Whether one more sort would be too many.
+fn has_all_sorts(tables: &Tables) -> bool
+    ensures { result ≡ nat_lt sort_limit (length (contents tables.now.theory).sorts + 1) }
+{
+    tables.theory.sig.sorts.len() >= SORT_LIMIT
 }

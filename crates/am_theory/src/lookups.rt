@@ -2,7 +2,7 @@
 
 ghost use Rattle.std.specs.Prelude.{◌≡◌, option_copied, map};
 ghost use Rattle.am_term.specs.NameLists.{is_among};
-ghost use Rattle.am_theory.specs.Lookups.{argument_sorts as sorts_taken, copy_names, copy_of as copy_at, fortran_names, function_named as function_with, listed_name, literal_of as literal_with, rep_of as rep_at, result_sort as sort_given, routine_named as routine_with};
+ghost use Rattle.am_theory.specs.Lookups.{argument_sorts as sorts_taken, copy_names, copy_of as copy_at, fortran_names, function_named as function_with, listed_name, literal_declared as literal_with, rep_of as rep_at, result_sort as sort_given, routine_named as routine_with};
 ghost use Rattle.am_theory.specs.declared.theory.FortranFunction.{FortranFunction};
 ghost use Rattle.am_theory.specs.declared.theory.Routine.{Routine};
 

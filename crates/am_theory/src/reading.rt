@@ -54,7 +54,7 @@ fn forms_theory(
     size: u32,
     forms: &[Form],
 ) -> Result<(), ReadError>
-    requires { contents tables.now.theory ≡ nothing }
+    requires { contents tables.now.theory ≡ nothing 1 }
     ensures { Gives (λ _. contents tables.new.theory) result (forms_theory size forms.now) }
 {
     match forms {
@@ -62,6 +62,10 @@ fn forms_theory(
         [head, rest @ ..] => match version_of(head) {
             None => Err(ReadError::at(head.place, TheoryKind::BadHead)),
             Some(1) => read_from(alloc, tables, rest),
+            Some(2) => {
+                tables.theory.version = 2;
+                read_from(alloc, tables, rest)
+            }
             Some(_) => Err(ReadError::at(head.place, TheoryKind::Version)),
         },
     }
@@ -86,7 +90,7 @@ pub fn read_theory(alloc: Global, bytes: &[u8]) -> Result<Theory, TheoryFault>
 
 // What a file declares, or the first fault.
 fn read_file(alloc: Global, tables: &mut Tables, bytes: &[u8]) -> Result<(), ReadError>
-    requires { contents tables.now.theory ≡ nothing }
+    requires { contents tables.now.theory ≡ nothing 1 }
     ensures { Gives (λ _. contents tables.new.theory) result (theory bytes.now) }
 {
     let limits = TextLimits {
@@ -108,7 +112,7 @@ fn formed_theory(
 ) -> Result<(), ReadError>
     requires formed { read file_limit depth_limit bytes.now ≡ Ok forms.now }
     requires few { length bytes.now ≤ file_limit }
-    requires empty { contents tables.now.theory ≡ nothing }
+    requires empty { contents tables.now.theory ≡ nothing 1 }
     ensures { Gives (λ _. contents tables.new.theory) result (theory bytes.now) }
 {
     forms_theory(alloc, tables, bytes.len() as u32, forms)

@@ -24,6 +24,7 @@ pub fn is_badly_represented(tables: &Tables, declaration: &Declaration) -> bool
 {
     match declaration {
         Declaration::Sort { rep, copy, .. } => is_bad_sort_rep(*rep, copy),
+        Declaration::Subsort { .. } => false,
         Declaration::Function { .. } => false,
         Declaration::Relation { .. } => false,
         Declaration::Literal { sort, value, .. } => !suits(value, tables.rep_named(sort)),
@@ -137,6 +138,7 @@ pub fn lacks_copy(declaration: &Declaration) -> bool
 {
     match declaration {
         Declaration::Sort { rep, copy, .. } => is_array_rep(*rep) && copy.is_none(),
+        Declaration::Subsort { .. } => false,
         _ => false,
     }
 }

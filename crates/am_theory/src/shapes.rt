@@ -1,6 +1,6 @@
 ghost use Rattle.std.specs.Prelude.{◌≡◌, [], ◌∷◌, IfOk, map, option_copied};
 ghost use Rattle.am_syntax.specs.Shapes.{all_of, some_of};
-ghost use Rattle.am_theory.specs.Declarations.{word_of, number_of, value_of, list_of, name_of, names_of, typed_of, rep_named, rep_of_one, rep_of_two, rep_in, written_rep_of, sort_decl, function_decl, relation_decl, literal_decl, routine_decl, value_decl, axiom_decl, is_all, plain_axiom, quantified_axiom, decl_of, decl_headed, version_of};
+ghost use Rattle.am_theory.specs.Declarations.{word_of, number_of, value_of, list_of, name_of, names_of, typed_of, rep_named, rep_of_one, rep_of_two, rep_in, written_rep_of, sort_decl, subsort_decl, function_decl, relation_decl, literal_decl, routine_decl, value_decl, axiom_decl, is_all, plain_axiom, quantified_axiom, decl_of, decl_headed, version_of};
 
 use crate::declaration::{Declaration, Typed, WrittenRep};
 use crate::theory::LitValue;
@@ -275,6 +275,24 @@ fn copied_sort(
     }))
 }
 
+fn subsort_decl(alloc: Global, rest: &[Form]) -> Result<Option<Declaration>, NoMemory>
+    ensures { IfOk result (λ d. d ≡ subsort_decl rest.now) }
+{
+    let [name, sort] = rest else {
+        return Ok(None);
+    };
+    let Some(name) = name_of(name) else {
+        return Ok(None);
+    };
+    let Some(sort) = name_of(sort) else {
+        return Ok(None);
+    };
+    Ok(Some(Declaration::Subsort {
+        name: Name::new(alloc, name.as_str())?,
+        sort: Name::new(alloc, sort.as_str())?,
+    }))
+}
+
 fn function_decl(alloc: Global, rest: &[Form]) -> Result<Option<Declaration>, NoMemory>
     ensures { IfOk result (λ d. d ≡ function_decl rest.now) }
 {
@@ -457,6 +475,7 @@ fn decl_headed(alloc: Global, head: &str, rest: &[Form]) -> Result<Option<Declar
 {
     match head {
         "sort" => sort_decl(alloc, rest),
+        "subsort" => subsort_decl(alloc, rest),
         "function" => function_decl(alloc, rest),
         "relation" => relation_decl(alloc, rest),
         "literal" => literal_decl(alloc, rest),

@@ -1,9 +1,9 @@
-ghost use Rattle.std.specs.Prelude.{◌≡◌, List, ℕ, map};
+ghost use Rattle.std.specs.Prelude.{◌≡◌, List, ℕ, map, option_copied};
 ghost use Rattle.am_term.specs.NameLists.{is_among};
 ghost use Rattle.am_theory.specs.declared.theory.FortranFunction.{FortranFunction};
 ghost use Rattle.am_theory.specs.declared.theory.Routine.{Routine};
-ghost use Rattle.am_theory.specs.Contents.{contents, nothing, sort_number, symbol_names};
-ghost use Rattle.am_theory.specs.Faults.{variable_names, called_names, copy_names, is_unknown_sort, is_symbol_name, is_taken, is_called, rep_named};
+ghost use Rattle.am_theory.specs.Contents.{contents, nothing, sort_number, rep_named, copy_named, symbol_names};
+ghost use Rattle.am_theory.specs.Faults.{variable_names, called_names, copy_names, is_unknown_sort, is_symbol_name, is_taken, is_called};
 
 use crate::theory::{Rep, Theory};
 use am_syntax::NameTable;
@@ -24,16 +24,17 @@ pub struct Tables {
     pub copies: NameTable,
     ghost sorts_agree: { sorts.names ≡ (contents theory).sorts },
     ghost symbols_agree: { symbols.names ≡ symbol_names (contents theory) },
-    ghost variables_agree: { (q : List ℕ) → is_among q variables.names ≡ is_among q (variable_names (contents theory)) },
+    ghost variables_agree: { (q : List ℕ)
+        → is_among q variables.names ≡ is_among q (variable_names (contents theory)) },
     ghost routines_agree: { routines.names ≡ map (λ (r : Routine). r.name) theory.routines },
     ghost functions_agree: { functions.names ≡ map (λ (f : FortranFunction). f.name) theory.functions },
     ghost copies_agree: { copies.names ≡ copy_names (contents theory) },
 }
 
 impl Tables {
-    /// Before the first declaration. Takes no memory.
+    /// Before the first declaration of a file of version 1. Takes no memory.
     pub fn new(alloc: Global) -> Tables
-        ensures { contents result.theory ≡ nothing }
+        ensures { contents result.theory ≡ nothing 1 }
     {
         let sig = Signature {
             sorts: Items::new(alloc),
@@ -41,6 +42,7 @@ impl Tables {
             symbols: Items::new(alloc),
         };
         let theory = Theory {
+            version: 1,
             sig,
             reps: Items::new(alloc),
             copies: Items::new(alloc),
@@ -84,6 +86,17 @@ impl Tables {
         let number = self.sorts.position(name)?;
         match self.theory.reps.get(number as usize) {
             Some(rep) => *rep,
+            None => None,
+        }
+    }
+
+    /// The copy routine of the sort of this name, if it has one.
+    pub fn copy_named(&self, name: &Name) -> Option<&Name>
+        ensures { option_copied result ≡ copy_named (contents self.now.theory) name.now }
+    {
+        let number = self.sorts.position(name)?;
+        match self.theory.copies.get(number as usize) {
+            Some(copy) => copy.as_ref(),
             None => None,
         }
     }

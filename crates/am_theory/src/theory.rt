@@ -50,10 +50,12 @@ pub struct Axiom {
     pub formula: Formula,
 }
 
-/// A theory. `reps` and `copies` have a member for each sort: its representation, if it is concrete,
-/// and its copy routine, if it has one. The other lists are in order of declaration.
+/// A theory, and the version of its file's format. `reps` and `copies` have a member for each sort: its representation,
+/// if it is concrete, and its copy routine, if it has one; a sort under another has those of the other. The other
+/// lists are in order of declaration.
 #[derive(Drop)]
 pub struct Theory {
+    pub version: u32,
     pub sig: Signature,
     pub reps: Items<Option<Rep>>,
     pub copies: Items<Option<Name>>,

@@ -17,7 +17,7 @@ use Rattle.am_diagram.specs.Laws.{ReadDiagramsAreWellFormed}
 use Rattle.am_demo.specs.Files.{theory_text, diagram_text}
 use Rattle.am_top.specs.Commands.{IsDiagram, HasDiagramFault, TheoryOf, DiagramOf, FilesOf, TextOf, Checks, Shows, Demonstrates}
 use Rattle.am_log.specs.Text.{byte_limit as text_limit}
-use Rattle.am_top.specs.Steps.{FoundTheory, FoundDiagram, FoundFiles, IsRead, IsDrawn, NoDiagram, NoFiles, FromDemo, FromText, TheText}
+use Rattle.am_top.specs.Steps.{FoundTheory, FoundDiagram, FoundFiles, IsRead, IsDrawnFrom, NoDiagram, NoFiles, FromDemo, FromText, TheText}
 
 -- ---- one file
 
@@ -134,7 +134,7 @@ module _ (k : ℕ) (pick : Pick) where
     demo_no_diagram answer (inl none) = inl none
     demo_no_diagram answer (inr fault) = let behind : DemoBehind t answer = inl fault in inr (inr (t, read.read, behind))
 
-    module _ (d : DiagramValue) (drawn : IsDrawn t (diagram_text k) d) where
+    module _ (d : DiagramValue) (drawn : IsDrawnFrom t (diagram_text k) d) where
       pub demo_printed : (answer : Answer) → FromDemo k pick t d answer → Demonstrates k pick answer
       demo_printed answer is = let behind : DemoBehind t answer = inr (d, drawn.read, is) in inr (t, read.read, behind)
 
@@ -145,8 +145,8 @@ module _ (k : ℕ) (pick : Pick) where
 pub theory_read : ReadTheoriesAreWellFormed → (bytes read : List ℕ) (t : TheoryValue) → read ≡ bytes → theory read ≡ Ok (contents t) → IsRead bytes t
 theory_read law bytes read t same is = subst (λ (b : List ℕ). IsRead b t) same (record { well = law read t is; read = is })
 
-pub diagram_read : ReadDiagramsAreWellFormed → (t : TheoryValue) (bytes read : List ℕ) (d : DiagramValue) → WellFormedTheory t → read ≡ bytes → diagram t read ≡ Ok d → IsDrawn t bytes d
-diagram_read law t bytes read d well same is = subst (λ (b : List ℕ). IsDrawn t b d) same (record { well = law t read d well is; read = is })
+pub diagram_read : ReadDiagramsAreWellFormed → (t : TheoryValue) (bytes read : List ℕ) (d : DiagramValue) → WellFormedTheory t → read ≡ bytes → diagram t read ≡ Ok d → IsDrawnFrom t bytes d
+diagram_read law t bytes read d well same is = subst (λ (b : List ℕ). IsDrawnFrom t b d) same (record { well = law t read d well is; read = is })
 
 module _ (told : List ℕ → Option (List ℕ)) (sure : List ℕ → Type 0) (first : List ℕ) where
   pub show_text : (t : TheoryValue) (answer : Answer) → FoundTheory (told first) t → TheText t answer → Shows told sure first answer

@@ -9,7 +9,7 @@ use Rattle.am_outside.specs.Causes.{Rose}
 use Rattle.am_outside.specs.Growth.{Grows, GrowsByPart}
 use Rattle.am_top.specs.declared.answer.Answer.{Answer}
 use Rattle.am_top.specs.declared.answer.Answer.TheVariants.{Usage}
-use Rattle.am_top.specs.Answers.{Page, Failed, is_text, message_of}
+use Rattle.am_top.specs.Answers.{Page, Failed, is_text_answer, message_of}
 use Rattle.am_top.specs.Messages.{usage}
 
 -- two parts are one
@@ -57,9 +57,9 @@ grows_nothing (Some held) = ap Some (sym (append_nil held))
 
 -- where the answer could not be put, one of the pages had a fault
 pub rose_where_failed : (answer : Answer) (out out_new err err_new : Page) → Failed answer out out_new err err_new → Rose out.faults out_new.faults ⊎ Rose err.faults err_new.faults
-rose_where_failed answer out out_new err err_new f = by_kind (is_text answer) refl
+rose_where_failed answer out out_new err err_new f = by_kind (is_text_answer answer) refl
   where
-    by_kind : (b : Bool) → is_text answer ≡ b → Rose out.faults out_new.faults ⊎ Rose err.faults err_new.faults
+    by_kind : (b : Bool) → is_text_answer answer ≡ b → Rose out.faults out_new.faults ⊎ Rose err.faults err_new.faults
     by_kind true e = inl (f.2 e).0
     by_kind false e = inr (f.3 e).0
 

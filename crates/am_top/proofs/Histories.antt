@@ -23,7 +23,7 @@ use Rattle.am_search.specs.declared.fate.Stage.TheVariants.{Quiet, Makes, Closes
 use Rattle.am_search.specs.declared.outcome.Limits.{Limits}
 use Rattle.am_search.specs.declared.outcome.Outcome.{Outcome}
 use Rattle.am_search.specs.declared.outcome.Outcome.TheVariants.{Found, Spent, Exhausted, Contradiction}
-use Rattle.am_diagram.specs.Listed.{sorts_in}
+use Rattle.am_diagram.specs.Listed.{entry_sorts}
 use Rattle.am_product.specs.Product.{AreRefuted}
 use Rattle.am_top.specs.Clauses.{AreRead, IsHistoryOf, HasEnded, IsSpent, IsContradiction, IsFound}
 
@@ -74,7 +74,7 @@ module _ (law : EntriesLaw) (a b : List ℕ) (limits : Limits) (pick : Pick) (t 
 
   counted : (o : Outcome) (s : IsSearched t d limits pick o) → length (entries_in o) ≡ inferences s.history
   counted o s =
-      ap (λ (es : List Entry). length es) (sym s.entries_are ∙ law TheRules (starting_rows t d) s.history (rules_of-starting t.sig (sorts_in d.inputs) limits.weight (length (theory_rows t)) (length (starting_rows t d))) s.plain.follows)
+      ap (λ (es : List Entry). length es) (sym s.entries_are ∙ law TheRules (starting_rows t d) s.history (rules_of-starting t.sig (entry_sorts d.inputs) limits.weight (length (theory_rows t)) (length (starting_rows t d))) s.plain.follows)
       ∙ made_count TheRules (starting_rows t d) s.history
 
   history_of : (o : Outcome) (s : IsSearched t d limits pick o) → IsHistoryOf t d limits pick s.history (end_of o)

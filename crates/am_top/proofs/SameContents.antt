@@ -59,6 +59,7 @@ lower_once c = hlevel props
 
 abbrev theory_by : (c : Contents) → List Symbol → Parented c → Lower c → Theory
 theory_by c symbols parented lower = record {
+  version = c.version;
   sig = record { sorts = c.sorts; parents = c.parents; symbols = symbols; parented = parented; lower = lower };
   reps = c.reps;
   copies = c.copies;

@@ -9,7 +9,7 @@ use Rattle.am_top.specs.declared.answer.Refusal.{Refusal}
 use Rattle.am_top.specs.declared.answer.Refusal.TheVariants as refusal
 use Rattle.am_top.specs.declared.status.Status.{Status}
 use Rattle.am_top.specs.declared.status.Status.TheVariants as status
-use Rattle.am_top.specs.Messages.{usage, cannot_read, cannot_write, no_memory, longer}
+use Rattle.am_top.specs.Messages.{usage, cannot_read, cannot_write, no_memory_text, longer}
 
 -- ---- what an answer says
 
@@ -30,12 +30,12 @@ status_of (Unread f) = status.Read
 status_of NoMemory = status.NoMemory
 
 -- the answer is a text
-abbrev pub is_text : Answer → Bool
-is_text (Text text) = true
-is_text Usage = false
-is_text (Refused r message) = false
-is_text (Unread f) = false
-is_text NoMemory = false
+abbrev pub is_text_answer : Answer → Bool
+is_text_answer (Text text) = true
+is_text_answer Usage = false
+is_text_answer (Refused r message) = false
+is_text_answer (Unread f) = false
+is_text_answer NoMemory = false
 
 -- what an answer puts out
 abbrev pub text_of : Answer → List ℕ
@@ -51,7 +51,7 @@ message_of (Text text) = []
 message_of Usage = usage
 message_of (Refused r message) = message.items
 message_of (Unread f) = cannot_read f
-message_of NoMemory = no_memory
+message_of NoMemory = no_memory_text
 
 -- what it says where a put failed: of its text, or of its message itself
 abbrev pub message_at_fault : Answer → List ℕ
@@ -141,5 +141,5 @@ abbrev pub Failed : Answer → Page → Page → Page → Page → Type 0
 Failed answer out out_new err err_new =
     GrowsByPart out.held out_new.held (text_of answer)
     × GrowsByPart err.held err_new.held (message_at_fault answer)
-    × (is_text answer ≡ true → Rose out.faults out_new.faults × ((Rose err.faults err_new.faults → ⊥) → Grows err.held err_new.held (message_at_fault answer)))
-    × (is_text answer ≡ false → Rose err.faults err_new.faults × (out_new.held ≡ out.held) × (out_new.faults ≡ out.faults))
+    × (is_text_answer answer ≡ true → Rose out.faults out_new.faults × ((Rose err.faults err_new.faults → ⊥) → Grows err.held err_new.held (message_at_fault answer)))
+    × (is_text_answer answer ≡ false → Rose err.faults err_new.faults × (out_new.held ≡ out.held) × (out_new.faults ≡ out.faults))

@@ -1,5 +1,6 @@
 -- What single clauses of a run say, where the library tells the files that the words name.
-use Rattle.std.specs.Prelude.{◌≡◌, ◌<◌, ◌⊎◌, ℕ, Option, Some, None, Err, List, length, slice_get}
+use Rattle.std.specs.Prelude.{◌≡◌, ◌<◌, ◌⊎◌, ℕ, String, Option, Some, None, Err, List, length, map, slice_get, string_bytes}
+use Rattle.am_outside.specs.Causes.{Rose}
 use Rattle.am_clause.specs.declared.row.Log.{Log}
 use Rattle.am_clause.specs.declared.row.Row.{Row}
 use Rattle.am_theory.specs.declared.theory.Theory.{Theory}
@@ -25,6 +26,7 @@ use Rattle.am_search.specs.declared.fate.End.TheVariants as end
 use Rattle.am_search.specs.declared.outcome.Limits.{Limits}
 use Rattle.am_product.specs.Product.{AreRefuted}
 use Rattle.am_demo.specs.Files.{theory_text, diagram_text}
+use Rattle.am_words.specs.Commands.{reading}
 use Rattle.am_words.specs.declared.command.Command.{Command}
 use Rattle.am_words.specs.declared.command.Command.TheVariants.{Make, Check, Theory as TheoryCommand, Demo}
 use Rattle.am_top.specs.declared.answer.File.TheVariants as file
@@ -32,6 +34,15 @@ use Rattle.am_top.specs.declared.status.Status.{Status}
 use Rattle.am_top.specs.declared.status.Status.TheVariants as status
 use Rattle.am_top.specs.Commands.{IsTheory, IsDiagram, IsPrinted, IsLong, IsSummary, demo_limits}
 use Rattle.am_top.specs.Messages.{longer, theory_message, diagram_message, refused_message}
+
+-- the command that the words are, if they are one
+abbrev pub command_in : {Z : Type 0} → List (String Z) → Option Command
+command_in words = reading (map string_bytes words)
+
+-- a fact that holds where none of three counts of faults rose: those of the library, of the texts' and of the messages' sink
+abbrev pub WhereNoneRose : ℕ → ℕ → ℕ → ℕ → ℕ → ℕ → Type 0 → Type 0
+WhereNoneRose library library_now out out_now err err_now Fact =
+    (Rose library library_now → ⊥) → (Rose out out_now → ⊥) → (Rose err err_now → ⊥) → Fact
 
 -- ---- facts of what the words name
 

@@ -104,18 +104,18 @@ reason_words (reason.Exec k) = exec_words k
 reason_words reason.Differs = codes "program differs from proof"
 
 -- the word by which a message names a file
-abbrev pub word_of : File → List ℕ
-word_of file.Theory = codes "theory"
-word_of file.Diagram = codes "diagram"
-word_of file.Text = codes "text"
+abbrev pub word_for : File → List ℕ
+word_for file.Theory = codes "theory"
+word_for file.Diagram = codes "diagram"
+word_for file.Text = codes "text"
 
 -- `amphion: FILE: byte P: KIND`
 abbrev pub at_byte : File → ℕ → List ℕ → List ℕ
-at_byte f place words = codes "amphion: " ++ word_of f ++ codes ": byte " ++ decimal place ++ codes ": " ++ words ++ 10 ∷ []
+at_byte f place words = codes "amphion: " ++ word_for f ++ codes ": byte " ++ decimal place ++ codes ": " ++ words ++ 10 ∷ []
 
 -- `amphion: FILE: longer than LIMIT bytes`
 abbrev pub longer : File → ℕ → List ℕ
-longer f limit = codes "amphion: " ++ word_of f ++ codes ": longer than " ++ decimal limit ++ codes " bytes" ++ 10 ∷ []
+longer f limit = codes "amphion: " ++ word_for f ++ codes ": longer than " ++ decimal limit ++ codes " bytes" ++ 10 ∷ []
 
 -- a fault by its place and the words of its kind
 unfoldable pub theory_message : TheoryFault → List ℕ
@@ -153,8 +153,8 @@ cannot_read file.Text = codes "amphion: cannot read text" ++ 10 ∷ []
 abbrev pub cannot_write : List ℕ
 cannot_write = codes "amphion: cannot write" ++ 10 ∷ []
 
-abbrev pub no_memory : List ℕ
-no_memory = codes "amphion: no memory" ++ 10 ∷ []
+abbrev pub no_memory_text : List ℕ
+no_memory_text = codes "amphion: no memory" ++ 10 ∷ []
 
 -- `accepted`
 abbrev pub accepted_text : List ℕ

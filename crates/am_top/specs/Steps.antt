@@ -43,7 +43,7 @@ pub record IsRead (bytes : List ℕ) (t : Theory) : Type 0 where
   pub well : WellFormedTheory t
   pub read : IsTheory bytes t
 
-pub record IsDrawn (t : Theory) (bytes : List ℕ) (d : Diagram) : Type 0 where
+pub record IsDrawnFrom (t : Theory) (bytes : List ℕ) (d : Diagram) : Type 0 where
   pub well : WellFormed t d
   pub read : IsDiagram t bytes d
 

@@ -24,7 +24,8 @@ pub fn answer_words<L: Library>(
     choosers: Vec<Box<dyn Chooser>>,
 ) -> Answer
     requires { length choosers.items ≡ 3 }
-    ensures answer { HasAnswer (L.told library.old) (L.sure library.old) (map pick_after choosers.items) (reading (map string_bytes words.now)) result }
+    ensures answer { HasAnswer (L.told library.old) (L.sure library.old) (map pick_after choosers.items)
+        (reading (map string_bytes words.now)) result }
     ensures faults { CountsFaults (IsUnread result) (L.faults library.old) (L.faults library.new) }
 {
     law_of_ranges();
@@ -48,8 +49,11 @@ fn answer_command<L: Library>(
 ) -> Result<Vec<u8>, Answer>
     requires choosers { length choosers.items ≡ 3 }
     requires ranges { InRange command.now }
-    ensures answer { MatchResult result (λ text. Does (L.told library.old) (L.sure library.old) (map pick_after choosers.items) command.now (Answer.Text text)) (IsAnswerOf (Does (L.told library.old) (L.sure library.old) (map pick_after choosers.items) command.now)) }
-    ensures faults { MatchResult result (λ _. L.faults library.new ≡ L.faults library.old) (λ answer. CountsFaults (IsUnread answer) (L.faults library.old) (L.faults library.new)) }
+    ensures answer { MatchResult result (λ text.
+        Does (L.told library.old) (L.sure library.old) (map pick_after choosers.items) command.now (Answer.Text text))
+        (IsAnswerOf (Does (L.told library.old) (L.sure library.old) (map pick_after choosers.items) command.now)) }
+    ensures faults { MatchResult result (λ _. L.faults library.new ≡ L.faults library.old) (λ answer.
+        CountsFaults (IsUnread answer) (L.faults library.old) (L.faults library.new)) }
 {
     match command {
         Command::Make {

@@ -4,7 +4,7 @@ ghost use Rattle.am_demo.specs.Files.{theory_text, diagram_text};
 ghost use Rattle.am_diagram.specs.Facts.{WellFormed};
 ghost use Rattle.am_top.specs.Answers.{IsAnswerOf};
 ghost use Rattle.am_top.specs.Commands.{Demonstrates, HasTheoryFault, HasDiagramFault, IsSummary};
-ghost use Rattle.am_top.specs.Steps.{FromDemo, IsRead, IsDrawn};
+ghost use Rattle.am_top.specs.Steps.{FromDemo, IsRead, IsDrawnFrom};
 
 use crate::answer::Answer;
 use crate::finding::{refuse_diagram, refuse_theory};
@@ -24,7 +24,8 @@ use std::alloc::Global;
 #[tactic(auto, using(crate::proofs::Chains::answering))]
 pub fn demonstrate(alloc: Global, k: u32, chooser: Box<dyn Chooser>) -> Result<Vec<u8>, Answer>
     requires { k ≤ 300 }
-    ensures { MatchResult result (λ text. Demonstrates k (pick_after chooser) (Answer.Text text)) (IsAnswerOf (Demonstrates k (pick_after chooser))) }
+    ensures { MatchResult result (λ text.
+        Demonstrates k (pick_after chooser) (Answer.Text text)) (IsAnswerOf (Demonstrates k (pick_after chooser))) }
 {
     let theory = demo_theory(alloc, k)?;
     let diagram = match demo_diagram(alloc, k, &theory) {
@@ -56,7 +57,8 @@ fn demo_theory(alloc: Global, k: u32) -> Result<Theory, Answer>
 fn demo_diagram(alloc: Global, k: u32, theory: &Theory) -> Result<Diagram, Answer>
     requires size { k ≤ 300 }
     requires theory { WellFormedTheory theory.now }
-    ensures { MatchResult result (IsDrawn theory.now (diagram_text k)) (IsAnswerOf (HasDiagramFault theory.now (diagram_text k))) }
+    ensures { MatchResult result (IsDrawnFrom theory.now (diagram_text k))
+        (IsAnswerOf (HasDiagramFault theory.now (diagram_text k))) }
 {
     diagrams_that_were_read_are_well_formed();
     let text = diagram_file(alloc, k)?;
@@ -77,7 +79,9 @@ fn sum_up(
 ) -> Result<Vec<u8>, Answer>
     requires theory { WellFormedTheory theory.now }
     requires diagram { WellFormed theory.now diagram.now }
-    ensures { MatchResult result (λ text. FromDemo k (pick_after chooser) theory.now diagram.now (Answer.Text text)) (IsAnswerOf (FromDemo k (pick_after chooser) theory.now diagram.now)) }
+    ensures { MatchResult result (λ text.
+        FromDemo k (pick_after chooser) theory.now diagram.now (Answer.Text text))
+        (IsAnswerOf (FromDemo k (pick_after chooser) theory.now diagram.now)) }
 {
     let limits = Limits {
         budget: 5_000,

@@ -28,8 +28,11 @@ pub fn examine<L: Library>(
     second: &Name,
     third: &Name,
 ) -> Result<Vec<u8>, Answer>
-    ensures answer { MatchResult result (λ text. Checks (L.told library.old) (L.sure library.old) first.now second.now third.now (Answer.Text text)) (IsAnswerOf (Checks (L.told library.old) (L.sure library.old) first.now second.now third.now)) }
-    ensures faults { MatchResult result (λ _. L.faults library.new ≡ L.faults library.old) (λ answer. CountsFaults (IsUnread answer) (L.faults library.old) (L.faults library.new)) }
+    ensures answer { MatchResult result (λ text.
+        Checks (L.told library.old) (L.sure library.old) first.now second.now third.now (Answer.Text text))
+        (IsAnswerOf (Checks (L.told library.old) (L.sure library.old) first.now second.now third.now)) }
+    ensures faults { MatchResult result (λ _. L.faults library.new ≡ L.faults library.old) (λ answer.
+        CountsFaults (IsUnread answer) (L.faults library.old) (L.faults library.new)) }
 {
     let files = match find_files(alloc, library, first, second) {
         Ok(files) => files,
@@ -56,7 +59,9 @@ fn examined(
     requires theory { WellFormedTheory theory.now }
     requires diagram { WellFormed theory.now diagram.now }
     requires short { length bytes.now ≤ text_limit }
-    ensures { MatchResult result (λ text. FromText theory.now diagram.now bytes.now (Answer.Text text)) (IsAnswerOf (FromText theory.now diagram.now bytes.now)) }
+    ensures { MatchResult result (λ text.
+        FromText theory.now diagram.now bytes.now (Answer.Text text))
+        (IsAnswerOf (FromText theory.now diagram.now bytes.now)) }
 {
     match check(alloc, theory, diagram, bytes)? {
         Verdict::Accepted => Ok(accepted_text(alloc)?),

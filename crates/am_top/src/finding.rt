@@ -36,8 +36,11 @@ pub fn find_files<L: Library>(
     first: &Name,
     second: &Name,
 ) -> Result<Files, Answer>
-    ensures found { MatchResult result (λ files. FoundFiles (L.told library.old) first.now second.now files.theory files.diagram) (NoFiles (L.told library.old) (L.sure library.old) first.now second.now) }
-    ensures faults { MatchResult result (λ _. L.faults library.new ≡ L.faults library.old) (λ answer. CountsFaults (IsUnread answer) (L.faults library.old) (L.faults library.new)) }
+    ensures found { MatchResult result (λ files.
+        FoundFiles (L.told library.old) first.now second.now files.theory files.diagram)
+        (NoFiles (L.told library.old) (L.sure library.old) first.now second.now) }
+    ensures faults { MatchResult result (λ _. L.faults library.new ≡ L.faults library.old) (λ answer.
+        CountsFaults (IsUnread answer) (L.faults library.old) (L.faults library.new)) }
     ensures told { L.told library.new ≡ L.told library.old }
     ensures sure { (n : List ℕ) → L.sure library.old n → L.sure library.new n }
 {
@@ -56,8 +59,10 @@ pub fn find_theory<L: Library>(
     library: &mut L,
     name: &Name,
 ) -> Result<Theory, Answer>
-    ensures found { MatchResult result (FoundTheory (L.told library.old name.now)) (NoTheory (L.told library.old name.now) (L.sure library.old name.now)) }
-    ensures faults { MatchResult result (λ _. L.faults library.new ≡ L.faults library.old) (λ answer. CountsFaults (IsUnread answer) (L.faults library.old) (L.faults library.new)) }
+    ensures found { MatchResult result (FoundTheory (L.told library.old name.now))
+        (NoTheory (L.told library.old name.now) (L.sure library.old name.now)) }
+    ensures faults { MatchResult result (λ _. L.faults library.new ≡ L.faults library.old) (λ answer.
+        CountsFaults (IsUnread answer) (L.faults library.old) (L.faults library.new)) }
     ensures told { L.told library.new ≡ L.told library.old }
     ensures sure { (n : List ℕ) → L.sure library.old n → L.sure library.new n }
 {
@@ -78,8 +83,10 @@ fn find_diagram<L: Library>(
     name: &Name,
 ) -> Result<Diagram, Answer>
     requires { WellFormedTheory theory.now }
-    ensures found { MatchResult result (FoundDiagram theory.now (L.told library.old name.now)) (NoDiagram theory.now (L.told library.old name.now) (L.sure library.old name.now)) }
-    ensures faults { MatchResult result (λ _. L.faults library.new ≡ L.faults library.old) (λ answer. CountsFaults (IsUnread answer) (L.faults library.old) (L.faults library.new)) }
+    ensures found { MatchResult result (FoundDiagram theory.now (L.told library.old name.now))
+        (NoDiagram theory.now (L.told library.old name.now) (L.sure library.old name.now)) }
+    ensures faults { MatchResult result (λ _. L.faults library.new ≡ L.faults library.old) (λ answer.
+        CountsFaults (IsUnread answer) (L.faults library.old) (L.faults library.new)) }
     ensures told { L.told library.new ≡ L.told library.old }
     ensures sure { (n : List ℕ) → L.sure library.old n → L.sure library.new n }
 {

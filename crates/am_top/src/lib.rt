@@ -1,8 +1,8 @@
 //! The one call that the program makes: words, files and choosers in, a text out.
 //!
 //! `specs/Commands.antt` says which answer each command has, as a chain of steps; `Answers` what a step, a chain and an
-//! answer are, `Messages` what is said where no text is printed, `Clauses` what single clauses of `run` say. `Steps` has
-//! forms for private contracts. The crate rests on all others but those of laws and of cases.
+//! answer are, `Messages` what is said where no text is printed, `Clauses` what single clauses of `run` say. `Steps`
+//! has forms for private contracts. The crate rests on all others but those of laws and of cases.
 #![tactic(auto)]
 
 mod answer;

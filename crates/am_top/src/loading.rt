@@ -17,8 +17,11 @@ pub fn load<L: Library>(
     name: &Name,
 ) -> Result<Vec<u8>, Answer>
     requires { limit ≤ 16777216 }
-    ensures loaded { MatchResult result (λ bytes. AreBytes limit (L.told library.old name.now) bytes.items) (IsAnswerOf (NotLoaded file limit (L.told library.old name.now) (L.sure library.old name.now))) }
-    ensures faults { MatchResult result (λ _. L.faults library.new ≡ L.faults library.old) (λ answer. CountsFaults (IsUnread answer) (L.faults library.old) (L.faults library.new)) }
+    ensures loaded { MatchResult result (λ bytes.
+        AreBytes limit (L.told library.old name.now) bytes.items)
+        (IsAnswerOf (NotLoaded file limit (L.told library.old name.now) (L.sure library.old name.now))) }
+    ensures faults { MatchResult result (λ _. L.faults library.new ≡ L.faults library.old) (λ answer.
+        CountsFaults (IsUnread answer) (L.faults library.old) (L.faults library.new)) }
     ensures told { L.told library.new ≡ L.told library.old }
     ensures sure { (n : List ℕ) → L.sure library.old n → L.sure library.new n }
 {

@@ -25,8 +25,12 @@ pub fn make<L: Library>(
     requires budget { limits.budget ≤ 100000 }
     requires some_weight { 10 ≤ limits.weight }
     requires weight { limits.weight ≤ 400 }
-    ensures answer { MatchResult result (λ text. Makes (L.told library.old) (L.sure library.old) first.now second.now limits (pick_after chooser) (Answer.Text text)) (IsAnswerOf (Makes (L.told library.old) (L.sure library.old) first.now second.now limits (pick_after chooser))) }
-    ensures faults { MatchResult result (λ _. L.faults library.new ≡ L.faults library.old) (λ answer. CountsFaults (IsUnread answer) (L.faults library.old) (L.faults library.new)) }
+    ensures answer { MatchResult result (λ text.
+        Makes (L.told library.old) (L.sure library.old) first.now second.now limits (pick_after chooser)
+        (Answer.Text text)) (IsAnswerOf (Makes (L.told library.old) (L.sure library.old) first.now second.now limits
+        (pick_after chooser))) }
+    ensures faults { MatchResult result (λ _. L.faults library.new ≡ L.faults library.old) (λ answer.
+        CountsFaults (IsUnread answer) (L.faults library.old) (L.faults library.new)) }
 {
     let files = match find_files(alloc, library, first, second) {
         Ok(files) => files,

@@ -1,6 +1,6 @@
 ghost use Rattle.std.specs.Prelude.{◌≡◌, ◌++◌, codes, IfOk, OnOk};
 ghost use Rattle.std.specs.Fmt.{decimal};
-ghost use Rattle.am_top.specs.Messages.{text_words as words_of_text, theory_words as words_of_theory, diagram_words as words_of_diagram, word_of as word_of_file, at_byte as message_at_byte, longer as message_of_length, theory_message as message_of_theory, diagram_message as message_of_diagram, spent_message as message_of_spent, exhausted_message as message_of_exhausted, contradiction_message as message_of_contradiction, long_message as message_of_long, refused_message as message_of_refusal, accepted_text as text_of_acceptance, reason_words as words_of_reason, log_words as words_of_log, unit_words as words_of_unit, exec_words as words_of_exec};
+ghost use Rattle.am_top.specs.Messages.{text_words as words_of_text, theory_words as words_of_theory, diagram_words as words_of_diagram, word_for as word_of_file, at_byte as message_at_byte, longer as message_of_length, theory_message as message_of_theory, diagram_message as message_of_diagram, spent_message as message_of_spent, exhausted_message as message_of_exhausted, contradiction_message as message_of_contradiction, long_message as message_of_long, refused_message as message_of_refusal, accepted_text as text_of_acceptance, reason_words as words_of_reason, log_words as words_of_log, unit_words as words_of_unit, exec_words as words_of_exec};
 
 use crate::answer::File;
 use am_check::Reason;

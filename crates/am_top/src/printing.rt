@@ -18,7 +18,9 @@ pub fn print<O: Sink, E: Sink>(out: &mut O, err: &mut E, answer: &Answer) -> Sta
     ensures message { result ≢ Status.Write → Grows (E.held err.old) (E.held err.new) (message_of answer.now) }
     ensures out_kept { result ≢ Status.Write → O.faults out.new ≡ O.faults out.old }
     ensures err_kept { result ≢ Status.Write → E.faults err.new ≡ E.faults err.old }
-    ensures failed { result ≡ Status.Write → Failed answer.now (page (O.held out.old) (O.faults out.old)) (page (O.held out.new) (O.faults out.new)) (page (E.held err.old) (E.faults err.old)) (page (E.held err.new) (E.faults err.new)) }
+    ensures failed { result ≡ Status.Write
+        → Failed answer.now (page (O.held out.old) (O.faults out.old)) (page (O.held out.new) (O.faults out.new))
+        (page (E.held err.old) (E.faults err.old)) (page (E.held err.new) (E.faults err.new)) }
 {
     match answer {
         Answer::Text(text) => print_text(out, err, text.as_slice()),
@@ -81,7 +83,8 @@ fn print_text<O: Sink, E: Sink>(out: &mut O, err: &mut E, text: &[u8]) -> Status
     ensures message { result ≢ Status.Write → Grows (E.held err.old) (E.held err.new) [] }
     ensures text_part { result ≡ Status.Write → GrowsByPart (O.held out.old) (O.held out.new) text.now }
     ensures message_part { result ≡ Status.Write → GrowsByPart (E.held err.old) (E.held err.new) cannot_write }
-    ensures message_whole { result ≡ Status.Write → (Rose (E.faults err.old) (E.faults err.new) → ⊥) → Grows (E.held err.old) (E.held err.new) cannot_write }
+    ensures message_whole { result ≡ Status.Write → (Rose (E.faults err.old) (E.faults err.new) → ⊥)
+        → Grows (E.held err.old) (E.held err.new) cannot_write }
     ensures write { result ≡ Status.Write → Rose (O.faults out.old) (O.faults out.new) }
     ensures out_kept { result ≢ Status.Write → O.faults out.new ≡ O.faults out.old }
     ensures err_kept { result ≢ Status.Write → E.faults err.new ≡ E.faults err.old }
@@ -99,7 +102,8 @@ fn print_text<O: Sink, E: Sink>(out: &mut O, err: &mut E, text: &[u8]) -> Status
 #[tactic(auto, using(crate::proofs::Growth::grows_by_all))]
 fn complain<E: Sink>(err: &mut E)
     ensures part { GrowsByPart (E.held err.old) (E.held err.new) cannot_write }
-    ensures whole { (Rose (E.faults err.old) (E.faults err.new) → ⊥) → Grows (E.held err.old) (E.held err.new) cannot_write }
+    ensures whole { (Rose (E.faults err.old) (E.faults err.new) → ⊥)
+        → Grows (E.held err.old) (E.held err.new) cannot_write }
 {
     let _put = err.put(b"amphion: cannot write\n");
 }

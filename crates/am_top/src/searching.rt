@@ -39,7 +39,9 @@ pub fn find_log(
     requires weight { limits.weight ≤ 400 }
     requires theory { WellFormedTheory theory.now }
     requires diagram { WellFormed theory.now diagram.now }
-    ensures { MatchResult result (λ f. FoundLog theory.now diagram.now limits (pick_after chooser) f.log f.inferences) (NoLog theory.now diagram.now limits (pick_after chooser)) }
+    ensures { MatchResult result (λ f.
+        FoundLog theory.now diagram.now limits (pick_after chooser) f.log f.inferences)
+        (NoLog theory.now diagram.now limits (pick_after chooser)) }
 {
     match search(alloc, theory, diagram, limits, chooser)? {
         Outcome::Found { log, entries, .. } => Ok(Finding {
@@ -77,7 +79,9 @@ pub fn search_text(
     requires weight { limits.weight ≤ 400 }
     requires theory { WellFormedTheory theory.now }
     requires diagram { WellFormed theory.now diagram.now }
-    ensures { MatchResult result (λ text. FromDiagram limits (pick_after chooser) theory.now diagram.now (Answer.Text text)) (IsAnswerOf (FromDiagram limits (pick_after chooser) theory.now diagram.now)) }
+    ensures { MatchResult result (λ text.
+        FromDiagram limits (pick_after chooser) theory.now diagram.now (Answer.Text text))
+        (IsAnswerOf (FromDiagram limits (pick_after chooser) theory.now diagram.now)) }
 {
     let found = match find_log(alloc, theory, diagram, limits, chooser) {
         Ok(found) => found,
@@ -99,7 +103,9 @@ fn product_text(
 ) -> Result<Vec<u8>, Answer>
     requires theory { WellFormedTheory theory.now }
     requires diagram { WellFormed theory.now diagram.now }
-    ensures { MatchResult result (λ text. ProductOf theory.now diagram.now log.now (Answer.Text text)) (IsAnswerOf (ProductOf theory.now diagram.now log.now)) }
+    ensures { MatchResult result (λ text.
+        ProductOf theory.now diagram.now log.now (Answer.Text text))
+        (IsAnswerOf (ProductOf theory.now diagram.now log.now)) }
 {
     match product(alloc, theory, diagram, log)? {
         Product::Text(text) => Ok(text),

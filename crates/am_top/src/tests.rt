@@ -1,4 +1,5 @@
-//! What is printed and said where a put or a fetch fails, and what a chooser is shown. Other rows are those of `tools/rows`.
+//! What is printed and said where a put or a fetch fails, and what a chooser is shown. Other rows are those of
+//! `tools/rows`.
 
 ghost use Rattle.std.specs.Prelude.{◌≡◌, ◌≢◌, length, IfOk};
 ghost use Rattle.am_agenda.specs.Picks.{lightest_place};

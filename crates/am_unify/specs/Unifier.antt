@@ -58,8 +58,8 @@ IsSolved sig ins sorts ps None = HasNoUnifier sig ins sorts ps
 IsSolved sig ins sorts ps (Some bs) = IsSolution sig ins sorts bs ps
 
 -- what is answered as one: the bindings, or none
-abbrev pub bindings_of : Option Subst → Option (List (ℕ × Term))
-bindings_of o = option_map (λ (s : Subst). s.0) o
+abbrev pub bindings_answered : Option Subst → Option (List (ℕ × Term))
+bindings_answered o = option_map (λ (s : Subst). s.0) o
 
 -- The terms of τ are those of σ, with each of their variables replaced by another of its sort, and back.
 pub record IsRenamed (sig : Signature) (sorts : ℕ → SortId) (σ τ : Substitution) : Type 0 where

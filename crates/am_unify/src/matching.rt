@@ -3,7 +3,7 @@ ghost use Rattle.am_term.specs.declared.id.SortId.{SortId};
 ghost use Rattle.am_term.specs.Same.{is_in};
 ghost use Rattle.am_term.specs.declared.term.Term.TheViews.{out-Term};
 ghost use Rattle.am_unify.specs.Matching.{IsMatched, bind_held, held as is_held, match_all, matched};
-ghost use Rattle.am_unify.specs.Unifier.{IsSortedUnder, bindings_of};
+ghost use Rattle.am_unify.specs.Unifier.{IsSortedUnder, bindings_answered};
 
 use crate::applying::inserted;
 use crate::substitution::Subst;
@@ -21,7 +21,9 @@ pub fn matches(
     pattern: &Term,
     term: &Term,
 ) -> Result<Option<Subst>, NoMemory>
-    ensures { (sorts : ℕ → SortId) → IsSortedUnder ctx.now.sig.now ctx.now.ins.now sorts pattern.now → IfOk result (λ o. IsMatched ctx.now.sig.now ctx.now.ins.now sorts pattern.now term.now (bindings_of o)) }
+    ensures { (sorts : ℕ → SortId) → IsSortedUnder ctx.now.sig.now ctx.now.ins.now sorts pattern.now
+        → IfOk result (λ o. IsMatched ctx.now.sig.now ctx.now.ins.now sorts pattern.now term.now
+        (bindings_answered o)) }
 {
     match extended(alloc, ctx, pattern, term, Items::new(alloc))? {
         Some(found) => Ok(Some(Subst(found))),
@@ -75,7 +77,8 @@ fn extended_all(
     terms: &[Term],
     found: Items<(u32, Term)>,
 ) -> Result<Option<Items<(u32, Term)>>, NoMemory>
-    ensures { IfOk result (λ o. o ≡ match_all (map (matched ctx.now.sig.now ctx.now.ins.now) patterns.now) terms.now found) }
+    ensures { IfOk result (λ o. o ≡ match_all
+        (map (matched ctx.now.sig.now ctx.now.ins.now) patterns.now) terms.now found) }
 {
     if patterns.len() != terms.len() {
         return Ok(None);
@@ -100,7 +103,8 @@ fn bound(
     term: &Term,
     found: Items<(u32, Term)>,
 ) -> Result<Option<Items<(u32, Term)>>, NoMemory>
-    ensures { IfOk result (λ o. o ≡ bind_held ctx.now.sig.now ctx.now.ins.now n sort term.now found (is_held found n term.now)) }
+    ensures { IfOk result (λ o. o ≡ bind_held ctx.now.sig.now ctx.now.ins.now n sort term.now found
+        (is_held found n term.now)) }
 {
     match held(found.as_slice(), n, term) {
         Some(true) => return Ok(Some(found)),

@@ -2,7 +2,7 @@ ghost use Rattle.std.specs.Prelude.{◌≡◌, ℕ, IfOk};
 ghost use Rattle.am_term.specs.declared.id.SortId.{SortId};
 ghost use Rattle.am_unify.specs.Mgu.{mgu};
 ghost use Rattle.am_unify.specs.Opening.{Reaches};
-ghost use Rattle.am_unify.specs.Unifier.{AreSortedUnder, IsSolved, bindings_of};
+ghost use Rattle.am_unify.specs.Unifier.{AreSortedUnder, IsSolved, bindings_answered};
 
 use crate::applying::{applied, inserted, replaced_in};
 use crate::opening::{Opened, open};
@@ -29,8 +29,9 @@ pub enum Step {
 /// none, and so exactly where there is no unifier. Of two variables of one sort the left one is bound.
 #[tactic(auto, using(crate::proofs::Unified::unified))]
 pub fn unify(alloc: Global, ctx: &Ctx, pairs: &[(Term, Term)]) -> Result<Option<Subst>, NoMemory>
-    ensures textbook { IfOk result (λ o. bindings_of o ≡ mgu ctx.now.sig.now ctx.now.ins.now pairs.now) }
-    ensures most_general { (sorts : ℕ → SortId) → AreSortedUnder ctx.now.sig.now ctx.now.ins.now sorts pairs.now → IfOk result (λ o. IsSolved ctx.now.sig.now ctx.now.ins.now sorts pairs.now (bindings_of o)) }
+    ensures textbook { IfOk result (λ o. bindings_answered o ≡ mgu ctx.now.sig.now ctx.now.ins.now pairs.now) }
+    ensures most_general { (sorts : ℕ → SortId) → AreSortedUnder ctx.now.sig.now ctx.now.ins.now sorts pairs.now
+        → IfOk result (λ o. IsSolved ctx.now.sig.now ctx.now.ins.now sorts pairs.now (bindings_answered o)) }
 {
     let mut todo = Items::new(alloc);
     for pair in pairs {

@@ -12,9 +12,9 @@ use Rattle.clap.specs.Simple.{entered, filled_from}
 use Rattle.clap.specs.Kinds.{or_else}
 use Rattle.clap.specs.declared.error.kind.ErrorKind.{ErrorKind}
 use Rattle.clap.specs.declared.error.kind.ErrorKind.TheVariants.{UnknownArgument, ArgumentConflict, InvalidValue, MissingRequiredArgument}
-use Rattle.am_words.specs.Grammar.{Text, Found, OptionWord, alone, with, unknown, Mode, plain, value, by_option, counted, value_of, is_dashes, is_option, option_word}
+use Rattle.am_words.specs.Grammar.{Text, Found, OptionWord, alone, with, unknown, Mode, plain, value, by_option, counted, value_given, is_dashes, is_option, option_word}
 use Rattle.am_words.proofs.Forwards.{read, read_by}
-use Rattle.am_words.specs.Slots.{Arguments, app_by, Slot, Slots, name, flag, told, id, differs, distinct, shape, slots, slots_from}
+use Rattle.am_words.specs.Slots.{Arguments, app_by, Slot, Slots, name, flag, told, id, differs, all_differ, command_shape, slots, slots_from}
 use Rattle.am_words.proofs.Walks as walks
 use Rattle.am_words.proofs.Walks.{Fresh, IsName, behind, looks, Use, Uses, at, held_at, misses, push, rows_at, rule, rules, shape_at, wait_at}
 use Rattle.am_words.proofs.Looks.{Tells, has_some, tells_first, tells_has, tells_push, values}
@@ -24,7 +24,7 @@ use Rattle.am_words.proofs.Fills.{Fill, Given, Next, TellsNames, fill_flag, fill
 -- what the rows say
 pub record Told (c : Arguments) (f : Found) (rows : List Row) : Type 0 where
   pub names : TellsNames rows c.names f.names
-  pub options : (n k : Text) → find (λ j. bytes_eq j n) c.options ≡ Some k → first_of k rows ≡ value_of k f.given
+  pub options : (n k : Text) → find (λ j. bytes_eq j n) c.options ≡ Some k → first_of k rows ≡ value_given k f.given
 
 abbrev pub Agrees : Arguments → Option Found → Kinds → List Row → Type 0
 Agrees c None kinds rows = kinds ≡ [] → ⊥
@@ -98,7 +98,7 @@ module _ (c : Arguments) (program : Text) where
   pub record Fits : Type 0 where
     pub places : At 1 c.names
     pub options : KnownOptions c.options
-    pub distinct : distinct c.names ≡ true
+    pub distinct : all_differ c.names ≡ true
     pub apart : list_all (λ k. differs k c.names) c.options ≡ true
 
   long_some : (n k : Text) → find (λ j. bytes_eq j n) c.options ≡ Some k → arg_by_long R n ≡ Some (rule (flag k))
@@ -150,14 +150,14 @@ module _ (c : Arguments) (program : Text) where
   }
 
   -- an option that is used for the first time
-  unused : (us : Uses) (g : List (Text × Text)) (n k : Text) → find (λ j. bytes_eq j n) c.options ≡ Some k → value_of k g ≡ None → Given us c.options g → values k us ≡ []
+  unused : (us : Uses) (g : List (Text × Text)) (n k : Text) → find (λ j. bytes_eq j n) c.options ≡ Some k → value_given k g ≡ None → Given us c.options g → values k us ≡ []
   unused us g n k e f h = h n k e ∙ ap list_of f
 
   no_row : (us : Uses) (k : Text) → Tells us → values k us ≡ [] → has_row k (rows_at us) ≡ false
   no_row us k t e = tells_has us k t ∙ ap has_some e
 
   -- with its value pending
-  wait_inv : (us : Uses) (ns : List Text) (g : List (Text × Text)) (n k w : Text) → Fits → find (λ j. bytes_eq j n) c.options ≡ Some k → value_of k g ≡ None → Inv us None ns g → Inv us (Some (flag k, w)) ns ((k, w) ∷ g)
+  wait_inv : (us : Uses) (ns : List Text) (g : List (Text × Text)) (n k w : Text) → Fits → find (λ j. bytes_eq j n) c.options ≡ Some k → value_given k g ≡ None → Inv us None ns g → Inv us (Some (flag k, w)) ns ((k, w) ∷ g)
   wait_inv us ns g n k w fits e f inv = record {
     known = known_option c.options n k fits.options e;
     fresh = no_row us k inv.tells (unused us g n k e f inv.given);
@@ -167,7 +167,7 @@ module _ (c : Arguments) (program : Text) where
   }
 
   -- with its value in the word
-  with_inv : (us : Uses) (ns : List Text) (g : List (Text × Text)) (n k w : Text) → Fits → find (λ j. bytes_eq j n) c.options ≡ Some k → value_of k g ≡ None → Inv us None ns g → Inv ((flag k, w) ∷ us) None ns ((k, w) ∷ g)
+  with_inv : (us : Uses) (ns : List Text) (g : List (Text × Text)) (n k w : Text) → Fits → find (λ j. bytes_eq j n) c.options ≡ Some k → value_given k g ≡ None → Inv us None ns g → Inv ((flag k, w) ∷ us) None ns ((k, w) ∷ g)
   with_inv us ns g n k w fits e f inv = record {
     known = tt;
     fresh = tt;
@@ -184,7 +184,7 @@ module _ (c : Arguments) (program : Text) where
   told_is : (us : Uses) (p : Option Use) (ns : List Text) (g : List (Text × Text)) → nat_eq (length c.names) (length ns) ≡ true → Inv us p ns g → Told c (record { names = ns; given = g }) (rows_at (push us p))
   told_is us p ns g e inv = record {
     names = tells_names (push us p) c.names ns inv.tells e inv.fill;
-    options = λ n k f. tells_first (push us p) k inv.tells ∙ ap (λ (vs : List Text). slice_get vs 0) (inv.given n k f) ∙ first_is (value_of k g);
+    options = λ n k f. tells_first (push us p) k inv.tells ∙ ap (λ (vs : List Text). slice_get vs 0) (inv.given n k f) ∙ first_is (value_given k g);
   }
     where
       first_is : (o : Option Text) → slice_get (list_of o) 0 ≡ o
@@ -197,7 +197,7 @@ module _ (c : Arguments) (program : Text) where
   by_count false f kinds rows rows' k r t = rw k (no_kinds MissingRequiredArgument [])
 
   ended : (t : Bool) (pos : ℕ) (us : Uses) (p : Option Use) (ns : List Text) (g : List (Text × Text)) → Inv us p ns g
-      → Agrees c (counted (shape c) (Some (record { names = ns; given = g }))) (total (at t pos us p) []) (rows_of (at t pos us p) [])
+      → Agrees c (counted (command_shape c) (Some (record { names = ns; given = g }))) (total (at t pos us p) []) (rows_of (at t pos us p) [])
   unfolding walk_fault
   ended t pos us p ns g inv =
       by_count (nat_eq (length c.names) (length ns)) (record { names = ns; given = g }) _ _ (rows_at (push us p))
@@ -207,7 +207,7 @@ module _ (c : Arguments) (program : Text) where
 
   -- ---- more names than there are places
 
-  too_many : (f : Found) → nat_lt (length c.names) (length f.names) ≡ true → counted (shape c) (Some f) ≡ None
+  too_many : (f : Found) → nat_lt (length c.names) (length f.names) ≡ true → counted (command_shape c) (Some f) ≡ None
   too_many f l = by_test (nat_eq (length c.names) (length f.names)) refl
     where
       by_test : (b : Bool) → nat_eq (length c.names) (length f.names) ≡ b → cond b (Some f) None ≡ None
@@ -220,24 +220,24 @@ module _ (c : Arguments) (program : Text) where
   one_more : (ns : List Text) (w : Text) → length c.names ≡ length ns → nat_lt (length c.names) (length (ns ++ w ∷ [])) ≡ true
   one_more ns w e = grind (arith, nat_tests, length-append)
 
-  by_once : (o : Option Text) (n : Option Found) → counted (shape c) n ≡ None → counted (shape c) (cond (is_some o) None n) ≡ None
+  by_once : (o : Option Text) (n : Option Found) → counted (command_shape c) n ≡ None → counted (command_shape c) (cond (is_some o) None n) ≡ None
   by_once None n e = e
   by_once (Some v) n e = refl
 
   by_word : (d o : Bool) (ow : OptionWord) (t n : Option Found) (wait : Text → Option Found) (next : Text → Text → Option Found)
-      → counted (shape c) t ≡ None → counted (shape c) n ≡ None → ((k : Text) → counted (shape c) (wait k) ≡ None) → ((k v : Text) → counted (shape c) (next k v) ≡ None)
-      → counted (shape c) (cond d t (cond o (by_option ow wait next) n)) ≡ None
+      → counted (command_shape c) t ≡ None → counted (command_shape c) n ≡ None → ((k : Text) → counted (command_shape c) (wait k) ≡ None) → ((k v : Text) → counted (command_shape c) (next k v) ≡ None)
+      → counted (command_shape c) (cond d t (cond o (by_option ow wait next) n)) ≡ None
   by_word true o ow t n wait next et en ew ex = et
   by_word false false ow t n wait next et en ew ex = en
   by_word false true (alone k) t n wait next et en ew ex = ew k
   by_word false true (with k v) t n wait next et en ew ex = ex k v
   by_word false true unknown t n wait next et en ew ex = refl
 
-  by_value : (o : Bool) (n : Option Found) → counted (shape c) n ≡ None → counted (shape c) (cond o None n) ≡ None
+  by_value : (o : Bool) (n : Option Found) → counted (command_shape c) n ≡ None → counted (command_shape c) (cond o None n) ≡ None
   by_value true n e = refl
   by_value false n e = e
 
-  crowd : (m : Mode) (ns : List Text) (g : List (Text × Text)) (ws : List Text) → nat_lt (length c.names) (length ns) ≡ true → counted (shape c) (read c.options m ns g ws) ≡ None
+  crowd : (m : Mode) (ns : List Text) (g : List (Text × Text)) (ws : List Text) → nat_lt (length c.names) (length ns) ≡ true → counted (command_shape c) (read c.options m ns g ws) ≡ None
   unfolding read
   crowd plain ns g [] l = too_many (record { names = ns; given = g }) l
   crowd (value k) ns g [] l = refl
@@ -245,8 +245,8 @@ module _ (c : Arguments) (program : Text) where
   crowd plain ns g (w ∷ ws) l = by_word (is_dashes w) (is_option w) (option_word c.options w) _ _ _ _
       (too_many (record { names = ns ++ ws; given = g }) (longer ns ws l))
       (crowd plain (ns ++ w ∷ []) g ws (longer ns (w ∷ []) l))
-      (λ k. by_once (value_of k g) _ (crowd (value k) ns g ws l))
-      (λ k v. by_once (value_of k g) _ (crowd plain ns ((k, v) ∷ g) ws l))
+      (λ k. by_once (value_given k g) _ (crowd (value k) ns g ws l))
+      (λ k v. by_once (value_given k g) _ (crowd plain ns ((k, v) ∷ g) ws l))
 
   -- ---- the induction
 
@@ -276,11 +276,11 @@ module _ (c : Arguments) (program : Text) where
 
   -- behind `--`
   trailing : (ws : List Text) (pos : ℕ) (us : Uses) (p : Option Use) (ns : List Text) (g : List (Text × Text)) (ps : List Text) → Fits → Inv us p ns g → left c.names ns ≡ ps → At pos ps
-      → Agrees c (counted (shape c) (Some (record { names = ns ++ ws; given = g }))) (total (at true pos us p) ws) (rows_of (at true pos us p) ws)
+      → Agrees c (counted (command_shape c) (Some (record { names = ns ++ ws; given = g }))) (total (at true pos us p) ws) (rows_of (at true pos us p) ws)
   trailing [] pos us p ns g ps fits inv el at_pos = rw (append-nil ns) (ended true pos us p ns g inv)
   trailing (w ∷ ws) pos us p ns g ps fits inv el at_pos =
-      named_word (counted (shape c) (Some (record { names = ns ++ w ∷ ws; given = g }))) (counted (shape c) (Some (record { names = (ns ++ w ∷ []) ++ ws; given = g })))
-      true pos us p ns g ps w ws fits behind (ap (λ t. counted (shape c) (Some (record { names = t; given = g }))) (one_by_one ns ws w))
+      named_word (counted (command_shape c) (Some (record { names = ns ++ w ∷ ws; given = g }))) (counted (command_shape c) (Some (record { names = (ns ++ w ∷ []) ++ ws; given = g })))
+      true pos us p ns g ps w ws fits behind (ap (λ t. counted (command_shape c) (Some (record { names = t; given = g }))) (one_by_one ns ws w))
       (λ e. too_many (record { names = ns ++ w ∷ ws; given = g }) (rw (one_by_one ns ws w) (longer (ns ++ w ∷ []) ws (one_more ns w e)))) inv el at_pos
       (λ pos' us' p' ps' inv' el' at'. trailing ws pos' us' p' (ns ++ w ∷ []) g ps' fits inv' el' at')
 
@@ -363,14 +363,14 @@ module _ (c : Arguments) (program : Text) where
 
   abbrev SpotInv : Uses → List Text → List (Text × Text) → Spot → Type 0
   SpotInv us ns g (here p) = Inv us p ns g
-  SpotInv us ns g (wanted n k) = Inv us None ns g × (find (λ j. bytes_eq j n) c.options ≡ Some k) × (value_of k g ≡ None)
+  SpotInv us ns g (wanted n k) = Inv us None ns g × (find (λ j. bytes_eq j n) c.options ≡ Some k) × (value_given k g ≡ None)
 
   -- an option that was given, and one that wasn't
   by_given : {X : Type 0} (o : Option Text) → (o ≡ None → X) → ((v : Text) → o ≡ Some v → X) → X
   by_given None f t = f refl
   by_given (Some v) f t = t v refl
 
-  had : (us : Uses) (ns : List Text) (g : List (Text × Text)) (n k v : Text) → find (λ j. bytes_eq j n) c.options ≡ Some k → value_of k g ≡ Some v → Inv us None ns g → has_row k (rows_at us) ≡ true
+  had : (us : Uses) (ns : List Text) (g : List (Text × Text)) (n k v : Text) → find (λ j. bytes_eq j n) c.options ≡ Some k → value_given k g ≡ Some v → Inv us None ns g → has_row k (rows_at us) ≡ true
   had us ns g n k v e f inv = tells_has us k inv.tells ∙ ap has_some (inv.given n k e ∙ ap list_of f)
 
   with_fine : (us : Uses) (p : Option Use) (ns : List Text) (g : List (Text × Text)) (k v : Text) (u : Kinds) → Inv us p ns g → use_fault false (rule (flag k)) (v ∷ []) (rows_at (push us p)) ≡ u
@@ -378,35 +378,35 @@ module _ (c : Arguments) (program : Text) where
   with_fine us p ns g k v u inv e = ap (λ x. or_else (or_else x (use_fault false (rule (flag k)) (v ∷ []) (rows_at (push us p)))) []) (fine us p ns g inv) ∙ ap (λ x. or_else x []) e
 
   pub agrees : (ws : List Text) (s : Spot) (pos : ℕ) (us : Uses) (ns : List Text) (g : List (Text × Text)) (ps : List Text) → Utf8s ws → Fits → SpotInv us ns g s → left c.names ns ≡ ps → At pos ps
-      → Agrees c (counted (shape c) (read c.options (spot_mode s) ns g ws)) (total (spot_walk pos us s) ws) (rows_of (spot_walk pos us s) ws)
+      → Agrees c (counted (command_shape c) (read c.options (spot_mode s) ns g ws)) (total (spot_walk pos us s) ws) (rows_of (spot_walk pos us s) ws)
   unfolding read
   agrees [] (here p) pos us ns g ps u fits inv el at_pos = ended false pos us p ns g inv
   agrees [] (wanted n k) pos us ns g ps u fits inv el at_pos = bare_end false pos us k None refl (known_option c.options n k fits.options inv.1)
   agrees (w ∷ ws) (wanted n k) pos us ns g ps u fits inv el at_pos =
-      wanted_word (counted (shape c) (read c.options (value k) ns g (w ∷ ws))) pos us k ps w ws u.0 at_pos (known_option c.options n k fits.options inv.1)
+      wanted_word (counted (command_shape c) (read c.options (value k) ns g (w ∷ ws))) pos us k ps w ws u.0 at_pos (known_option c.options n k fits.options inv.1)
       (λ o. rw o refl)
       (λ o. rw o (agrees ws (here (Some (flag k, w))) pos us ns ((k, w) ∷ g) ps u.1 fits (wait_inv us ns g n k w fits inv.1 inv.2 inv.0) el at_pos))
   agrees (w ∷ ws) (here p) pos us ns g ps u fits inv el at_pos = elim (word_of c.options w u.0) [
-    | w_dashes d o ↦ step (counted (shape c) (read c.options plain ns g (w ∷ ws))) (counted (shape c) (Some (record { names = ns ++ ws; given = g }))) (at false pos us p) (at true pos us p) w ws
+    | w_dashes d o ↦ step (counted (command_shape c) (read c.options plain ns g (w ∷ ws))) (counted (command_shape c) (Some (record { names = ns ++ ws; given = g }))) (at false pos us p) (at true pos us p) w ws
         (rw d refl) (walks.dashes-fault ss program pos us p w d) (walks.dashes-walk ss program pos us p w d) (trailing ws pos us p ns g ps fits inv el at_pos)
-    | w_alone n k d o l f ow ↦ by_given (value_of k g)
-        (λ e. step (counted (shape c) (read c.options plain ns g (w ∷ ws))) (counted (shape c) (read c.options (value k) ns g ws)) (at false pos us p) (wait_at false k pos (push us p)) w ws
+    | w_alone n k d o l f ow ↦ by_given (value_given k g)
+        (λ e. step (counted (command_shape c) (read c.options plain ns g (w ∷ ws))) (counted (command_shape c) (read c.options (value k) ns g ws)) (at false pos us p) (wait_at false k pos (push us p)) w ws
         (rw (d, o, ow, e) refl) (walks.alone-fault ss program pos us p w n k d l (long_some n k f) ∙ ap (λ x. or_else x []) (fine us p ns g inv)) (walks.alone-walk ss program pos us p w n k d l (long_some n k f) inv.known)
         (agrees ws (wanted n k) pos (push us p) ns g ps u.1 fits (settled_inv us p ns g inv, f, e) el at_pos))
-        (λ v e. step (counted (shape c) (read c.options plain ns g (w ∷ ws))) None (at false pos us p) (wait_at false k pos (push us p)) w ws
+        (λ v e. step (counted (command_shape c) (read c.options plain ns g (w ∷ ws))) None (at false pos us p) (wait_at false k pos (push us p)) w ws
         (rw (d, o, ow, e) refl) (walks.alone-fault ss program pos us p w n k d l (long_some n k f) ∙ ap (λ x. or_else x []) (fine us p ns g inv)) (walks.alone-walk ss program pos us p w n k d l (long_some n k f) inv.known)
         (doom_wanted pos (push us p) k ps ws u.1 at_pos (known_option c.options n k fits.options f) (had (push us p) ns g n k v f e (settled_inv us p ns g inv))))
-    | w_with n k x d o l f ow ↦ by_given (value_of k g)
-        (λ e. step (counted (shape c) (read c.options plain ns g (w ∷ ws))) (counted (shape c) (read c.options plain ns ((k, x) ∷ g) ws)) (at false pos us p) (at false pos ((flag k, x) ∷ push us p) None) w ws
+    | w_with n k x d o l f ow ↦ by_given (value_given k g)
+        (λ e. step (counted (command_shape c) (read c.options plain ns g (w ∷ ws))) (counted (command_shape c) (read c.options plain ns ((k, x) ∷ g) ws)) (at false pos us p) (at false pos ((flag k, x) ∷ push us p) None) w ws
         (rw (d, o, ow, e) refl)
         (walks.with-fault ss program pos us p w n k x d l (long_some n k f) inv.known ∙ with_fine us p ns g k x [] inv (walks.use_fine ss program k x (push us p) (no_row (push us p) k inv.tells (unused (push us p) g n k f e inv.given))))
         (walks.with-walk ss program pos us p w n k x d l (long_some n k f) inv.known)
         (agrees ws (here None) pos ((flag k, x) ∷ push us p) ns ((k, x) ∷ g) ps u.1 fits (with_inv (push us p) ns g n k x fits f e (settled_inv us p ns g inv)) el at_pos))
-        (λ v e. stop (counted (shape c) (read c.options plain ns g (w ∷ ws))) (at false pos us p) w ws ArgumentConflict (rw (d, o, ow, e) refl)
+        (λ v e. stop (counted (command_shape c) (read c.options plain ns g (w ∷ ws))) (at false pos us p) w ws ArgumentConflict (rw (d, o, ow, e) refl)
         (walks.with-fault ss program pos us p w n k x d l (long_some n k f) inv.known ∙ with_fine us p ns g k x (ArgumentConflict ∷ []) inv (walks.use_conflict ss program k x (push us p) (had (push us p) ns g n k v f e (settled_inv us p ns g inv)))))
-    | w_unknown n x d o l f ow ↦ stop (counted (shape c) (read c.options plain ns g (w ∷ ws))) (at false pos us p) w ws UnknownArgument (rw (d, o, ow) refl) (walks.unknown-fault ss program pos us p w n x d l (long_none n f))
-    | w_short letters x n d o l s len ch ow ↦ stop (counted (shape c) (read c.options plain ns g (w ∷ ws))) (at false pos us p) w ws UnknownArgument (rw (d, o, ow) refl) (walks.short-fault ss program pos us p w letters x n d l s len ch)
-    | w_name d o l s ↦ named_word (counted (shape c) (read c.options plain ns g (w ∷ ws))) (counted (shape c) (read c.options plain (ns ++ w ∷ []) g ws)) false pos us p ns g ps w ws fits (looks d l s) (rw (d, o) refl)
+    | w_unknown n x d o l f ow ↦ stop (counted (command_shape c) (read c.options plain ns g (w ∷ ws))) (at false pos us p) w ws UnknownArgument (rw (d, o, ow) refl) (walks.unknown-fault ss program pos us p w n x d l (long_none n f))
+    | w_short letters x n d o l s len ch ow ↦ stop (counted (command_shape c) (read c.options plain ns g (w ∷ ws))) (at false pos us p) w ws UnknownArgument (rw (d, o, ow) refl) (walks.short-fault ss program pos us p w letters x n d l s len ch)
+    | w_name d o l s ↦ named_word (counted (command_shape c) (read c.options plain ns g (w ∷ ws))) (counted (command_shape c) (read c.options plain (ns ++ w ∷ []) g ws)) false pos us p ns g ps w ws fits (looks d l s) (rw (d, o) refl)
         (λ e. rw (d, o) (crowd plain (ns ++ w ∷ []) g ws (one_more ns w e))) inv el at_pos
         (λ pos' us' p' ps' inv' el' at'. agrees ws (here p') pos' us' (ns ++ w ∷ []) g ps' u.1 fits inv' el' at')
   ]
@@ -420,7 +420,7 @@ module _ (c : Arguments) (program : Text) where
   nothing_inv : Inv [] None [] []
   nothing_inv = record { known = tt; fresh = tt; tells = λ i. refl; fill = fills_none c.names; given = λ n k e. refl }
 
-  pub from_start : (ws : List Text) → Utf8s ws → Fits → Agrees c (read_by (shape c) ws) (total (at false 1 [] None) ws) (rows_of (at false 1 [] None) ws)
+  pub from_start : (ws : List Text) → Utf8s ws → Fits → Agrees c (read_by (command_shape c) ws) (total (at false 1 [] None) ws) (rows_of (at false 1 [] None) ws)
   from_start ws u fits = agrees ws (here None) 1 [] [] [] c.names u fits nothing_inv (left_nil c.names) fits.places
 
   -- `clap` builds the command as it was told, with the places numbered
@@ -436,5 +436,5 @@ module _ (c : Arguments) (program : Text) where
   level_is None ws = refl
   level_is (Some p) ws = refl
 
-  pub reads_as : (ws : List Text) → Utf8s (drop 1 ws) → Fits → Agrees c (read_by (shape c) (drop 1 ws)) (fault_of (app_by program c) ws) (matches_of (app_by program c) ws)
+  pub reads_as : (ws : List Text) → Utf8s (drop 1 ws) → Fits → Agrees c (read_by (command_shape c) (drop 1 ws)) (fault_of (app_by program c) ws) (matches_of (app_by program c) ws)
   reads_as ws u fits = rw (filled_is 1 c.names c.options) (rw (level_is (walk R [] nothing_held (drop 1 ws)).stopped (drop 1 ws)) (from_start (drop 1 ws) u fits))

@@ -4,7 +4,7 @@ use Rattle.clap.specs.Lexer.{usize_max}
 use Rattle.clap.specs.Words.{App, Rule, with_rule}
 use Rattle.clap.specs.Simple.{on_top}
 use Rattle.am_words.specs.Grammar.{Text}
-use Rattle.am_words.specs.Slots.{name, flag, told, slots_from, arguments, app_by, bare_app, with_names, with_options}
+use Rattle.am_words.specs.Slots.{name, flag, told, slots_from, command_of, app_by, bare_app, with_names, with_options}
 
 abbrev with_rules : App → List Rule → App
 with_rules a rs = on_top (λ s. record s { rules = s.rules ++ rs }) a
@@ -32,7 +32,7 @@ rules_are i [] options = flags_are options
 rules_are i (k ∷ names) options = ap (λ t. told (name 0 k) ∷ t) (rules_are (min (i + 1) usize_max) names options)
 
 -- what the steps of the builder come to
-pub built_up : (program : Text) (names options : List Text) (a b d : App) → a ≡ bare_app program → b ≡ with_names a names → d ≡ with_options b options → d ≡ app_by program (arguments names options)
+pub built_up : (program : Text) (names options : List Text) (a b d : App) → a ≡ bare_app program → b ≡ with_names a names → d ≡ with_options b options → d ≡ app_by program (command_of names options)
 built_up program names options a b d ea eb ed =
     ed ∙ ap (λ t. with_options t options) (eb ∙ ap (λ t. with_names t names) ea)
     ∙ options_are (with_names (bare_app program) names) options

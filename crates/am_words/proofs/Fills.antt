@@ -6,8 +6,8 @@ use Rattle.std.specs.List.{list_all}
 use Rattle.std.proofs.lemmas.Bool.Decides.{nat_tests}
 use Rattle.clap.specs.Lexer.{usize_max}
 use Rattle.clap.specs.Words.{Row, first_of}
-use Rattle.am_words.specs.Grammar.{Text, value_of}
-use Rattle.am_words.specs.Slots.{Arguments, Slot, flag, id, differs, distinct, slots_from}
+use Rattle.am_words.specs.Grammar.{Text, value_given}
+use Rattle.am_words.specs.Slots.{Arguments, Slot, flag, id, differs, all_differ, slots_from}
 use Rattle.am_words.proofs.Walks.{Use, Uses, misses, rows_at, same}
 use Rattle.am_words.proofs.Looks.{Tells, tells_first, tells_given, values}
 
@@ -30,7 +30,7 @@ list_of (Some v) = v ∷ []
 
 -- the options have their values
 abbrev pub Given : Uses → List Text → List (Text × Text) → Type 0
-Given us options g = (n k : Text) → find (λ j. bytes_eq j n) options ≡ Some k → values k us ≡ list_of (value_of k g)
+Given us options g = (n k : Text) → find (λ j. bytes_eq j n) options ≡ Some k → values k us ≡ list_of (value_given k g)
 
 -- ---- Bools
 
@@ -82,15 +82,15 @@ fill_other us u (k ∷ ps) [] d h = (rw ((apart_here (id u.0) k ps d).0) h.0, fi
 fill_other us u (k ∷ ps) (n ∷ ns) d h = (rw ((apart_here (id u.0) k ps d).0) h.0, fill_other us u ps ns (apart_later (id u.0) k ps d) h.1)
 
 -- a name goes to the next place
-pub fill_name : (us : Uses) (s : Slot) (w : Text) (ps ns : List Text) → Next (left ps ns) (id s) → distinct ps ≡ true → Fill us ps ns → Fill ((s, w) ∷ us) ps (ns ++ w ∷ [])
+pub fill_name : (us : Uses) (s : Slot) (w : Text) (ps ns : List Text) → Next (left ps ns) (id s) → all_differ ps ≡ true → Fill us ps ns → Fill ((s, w) ∷ us) ps (ns ++ w ∷ [])
 fill_name us s w [] ns h d f = absurd h
 fill_name us s w (k ∷ ps) [] h d f = (
   rw (h, same (id s)) (ap (λ t. t ++ w ∷ []) (subst (λ t. values t us ≡ []) h f.0)),
-  fill_other us (s, w) ps [] (subst (λ t. differs t ps ≡ true) h (and_left (differs k ps) (distinct ps) d)) f.1,
+  fill_other us (s, w) ps [] (subst (λ t. differs t ps ≡ true) h (and_left (differs k ps) (all_differ ps) d)) f.1,
 )
 fill_name us s w (k ∷ ps) (n ∷ ns) h d f = (
-  rw ((apart_left k (id s) ps ns (and_left (differs k ps) (distinct ps) d) h).1) f.0,
-  fill_name us s w ps ns h (and_right (differs k ps) (distinct ps) d) f.1,
+  rw ((apart_left k (id s) ps ns (and_left (differs k ps) (all_differ ps) d) h).1) f.0,
+  fill_name us s w ps ns h (and_right (differs k ps) (all_differ ps) d) f.1,
 )
 
 pub left_more : (ps ns : List Text) (w : Text) → left ps (ns ++ w ∷ []) ≡ left (left ps ns) (w ∷ [])
@@ -118,7 +118,7 @@ pub fill_flag : (us : Uses) (k v : Text) (ps ns : List Text) → differs k ps �
 fill_flag us k v ps ns d h = fill_other us (flag k, v) ps ns d h
 
 pub given_flag : (us : Uses) (k v : Text) (options : List Text) (g : List (Text × Text)) → values k us ≡ [] → Given us options g → Given ((flag k, v) ∷ us) options ((k, v) ∷ g)
-given_flag us k v options g e h n j f = by_key (bytes_eq k j) (values k us) (values j us) (value_of j g) e (h n j f)
+given_flag us k v options g e h n j f = by_key (bytes_eq k j) (values k us) (values j us) (value_given j g) e (h n j f)
   where
     by_key : (b : Bool) (mine other : List Text) (o : Option Text) → mine ≡ [] → other ≡ list_of o → cond b (mine ++ v ∷ []) other ≡ list_of (cond b (Some v) o)
     by_key true mine other o e f = rw e refl

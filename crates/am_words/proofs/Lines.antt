@@ -8,7 +8,7 @@ use Rattle.clap.specs.declared.ArgMatches.{ArgMatches}
 use Rattle.clap.proofs.WalkLemmas.{first_value-rows}
 use Rattle.am_words.specs.Grammar.{Found, Text, loosely_by}
 use Rattle.am_words.proofs.Forwards.{Agree, Alike, forwards, read_by}
-use Rattle.am_words.specs.Slots.{Arguments, app_by, is_sound, shape}
+use Rattle.am_words.specs.Slots.{Arguments, app_by, is_sound, command_shape}
 use Rattle.am_words.specs.Told.{HasNames, IsReadAs, IsTold}
 use Rattle.am_words.specs.declared.fault.WordsFault.{WordsFault}
 use Rattle.am_words.proofs.Fills.{TellsNames, and_left}
@@ -27,7 +27,7 @@ rest_utf8 [] = tt
 rest_utf8 (w ∷ ws) = all_utf8 ws
 
 agreed : (c : Arguments) (program : Text) (ws : List (String Global)) → is_sound c ≡ true
-    → Agrees c (read_by (shape c) (drop 1 (texts ws))) (fault_of (app_by program c) (texts ws)) (matches_of (app_by program c) (texts ws))
+    → Agrees c (read_by (command_shape c) (drop 1 (texts ws))) (fault_of (app_by program c) (texts ws)) (matches_of (app_by program c) (texts ws))
 agreed c program ws e = reads_as c program (texts ws) (rest_utf8 ws) (fits c program e)
 
 pub simple_is : (a : App) → is_simple_and_free a ≡ true → is_simple a ≡ true
@@ -46,7 +46,7 @@ module _ (m : ArgMatches) where
     options = λ k g. first_value-rows (found_of m) k ∙ ap (first_of k) e ∙ t.options k k g ∙ a.given k;
   }
 
-  from_agrees : (c : Arguments) (words : List Text) (r o : Option Found) (kinds : Kinds) (rows : List Row) → loosely_by (shape c) words ≡ o → Agree r o → Agrees c r kinds rows → kinds ≡ [] → rows_of (found_of m) ≡ rows
+  from_agrees : (c : Arguments) (words : List Text) (r o : Option Found) (kinds : Kinds) (rows : List Row) → loosely_by (command_shape c) words ≡ o → Agree r o → Agrees c r kinds rows → kinds ≡ [] → rows_of (found_of m) ≡ rows
       → IsReadAs c words m
   from_agrees c words r None kinds rows l a h k e = let bad : Agrees c None kinds rows = subst (λ t. Agrees c t kinds rows) a h in absurd (bad k)
   from_agrees c words r (Some f) kinds rows l a h k e =
@@ -58,8 +58,8 @@ pub read_as : (c : Arguments) (program : Text) (ws : List (String Global)) (a : 
     → IfOk r (λ m. fault_of a (texts ws) ≡ []) → IfOk r (λ m. rows_of (found_of m) ≡ matches_of a (texts ws)) → IfOk r (IsReadAs c (drop 1 (texts ws)))
 read_as c program ws a (Err x) s e f g = tt
 read_as c program ws a (Ok m) s e f g =
-    from_agrees m c (drop 1 (texts ws)) (read_by (shape c) (drop 1 (texts ws))) (loosely_by (shape c) (drop 1 (texts ws))) (fault_of (app_by program c) (texts ws)) (matches_of (app_by program c) (texts ws)) refl
-    (forwards (shape c) (drop 1 (texts ws))) (agreed c program ws s) (ap (λ t. fault_of t (texts ws)) (sym e) ∙ f) (g ∙ ap (λ t. matches_of t (texts ws)) e)
+    from_agrees m c (drop 1 (texts ws)) (read_by (command_shape c) (drop 1 (texts ws))) (loosely_by (command_shape c) (drop 1 (texts ws))) (fault_of (app_by program c) (texts ws)) (matches_of (app_by program c) (texts ws)) refl
+    (forwards (command_shape c) (drop 1 (texts ws))) (agreed c program ws s) (ap (λ t. fault_of t (texts ws)) (sym e) ∙ f) (g ∙ ap (λ t. matches_of t (texts ws)) e)
 
 refused : (c : Arguments) (o : Option Found) (kinds : Kinds) (rows : List Row) → Agrees c o kinds rows → kinds ≢ [] → o ≡ None
 refused c None kinds rows h k = refl
@@ -69,6 +69,6 @@ none_too : (r o : Option Found) → Agree r o → r ≡ None → o ≡ None
 none_too r None a e = refl
 none_too r (Some f) a e = let bad : None ≡ Some a.0 = sym e ∙ a.1 in absurd cc
 
-pub no_reading : (c : Arguments) (program : Text) (ws : List (String Global)) (a : App) → is_sound c ≡ true → a ≡ app_by program c → fault_of a (texts ws) ≢ [] → loosely_by (shape c) (drop 1 (texts ws)) ≡ None
-no_reading c program ws a s e f = none_too _ _ (forwards (shape c) (drop 1 (texts ws)))
-    (refused c (read_by (shape c) (drop 1 (texts ws))) (fault_of (app_by program c) (texts ws)) (matches_of (app_by program c) (texts ws)) (agreed c program ws s) (λ k. f (ap (λ t. fault_of t (texts ws)) e ∙ k)))
+pub no_reading : (c : Arguments) (program : Text) (ws : List (String Global)) (a : App) → is_sound c ≡ true → a ≡ app_by program c → fault_of a (texts ws) ≢ [] → loosely_by (command_shape c) (drop 1 (texts ws)) ≡ None
+no_reading c program ws a s e f = none_too _ _ (forwards (command_shape c) (drop 1 (texts ws)))
+    (refused c (read_by (command_shape c) (drop 1 (texts ws))) (fault_of (app_by program c) (texts ws)) (matches_of (app_by program c) (texts ws)) (agreed c program ws s) (λ k. f (ap (λ t. fault_of t (texts ws)) e ∙ k)))

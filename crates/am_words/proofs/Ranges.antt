@@ -3,9 +3,9 @@ use Rattle.std.proofs.Common.{◌≡◌, ◌≤◌, ◌<◌, ◌&&◌, ℕ, Bool
 use Rattle.std.specs.Prelude.{option_and_then}
 use Rattle.std.specs.Str.{bytes_eq}
 use Rattle.std.proofs.lemmas.Bool.Decides.{nat_tests}
-use Rattle.am_words.specs.Grammar.{Found, Text, reading_by, value_of}
-use Rattle.am_words.specs.Numbers.{choice, number_between, number_of, number_or, within}
-use Rattle.am_words.specs.Commands.{by_first, check, check_from, demo, demo_from, demo_of, make, make_from, make_of, one, read_as_check, read_as_demo, read_as_make, read_as_theory, theory, theory_from, three, two}
+use Rattle.am_words.specs.Grammar.{Found, Text, reading_by, value_given}
+use Rattle.am_words.specs.Numbers.{choice, number_between, short_number, number_or, within}
+use Rattle.am_words.specs.Commands.{by_first, check_shape, check_from, demo_shape, demo_from, demo_of, make_shape, make_from, make_of, one, read_as_check, read_as_demo, read_as_make, read_as_theory, theory_shape, theory_from, three, two}
 use Rattle.am_words.specs.Laws.{InRange, RangesHold}
 use Rattle.am_words.specs.declared.command.Command.{Command}
 use Rattle.am_words.specs.declared.command.Command.TheVariants.{Make, Check, Theory, Demo}
@@ -29,7 +29,7 @@ within_is least most (Some m) n e = by_tests (nat_le least m) (nat_le m most) re
 
 number_is : (least most default : ℕ) → least ≤ default → default ≤ most → (o : Option Text) (n : ℕ) → number_or least most default o ≡ Some n → (least ≤ n) × (n ≤ most)
 number_is least most default low high None n e = subst (λ t. (least ≤ t) × (t ≤ most)) (the_same default n e) (low, high)
-number_is least most default low high (Some text) n e = within_is least most (number_of text) n e
+number_is least most default low high (Some text) n e = within_is least most (short_number text) n e
 
 choice_is : (o : Option Text) (n : ℕ) → choice o ≡ Some n → n < 3
 choice_is None n e = subst (λ t. t < 3) (the_same 0 n e) (omega arith)
@@ -55,12 +55,12 @@ module _ (x : Command) where
   make_in f e = by_names f.names e
     where
       by_names : (ns : List Text)
-          → two ns (λ t d. make_of t d (number_or 1 100000 5000 (value_of (codes "budget") f.given)) (number_or 10 400 200 (value_of (codes "weight") f.given)) (choice (value_of (codes "choose") f.given))) ≡ Some x
+          → two ns (λ t d. make_of t d (number_or 1 100000 5000 (value_given (codes "budget") f.given)) (number_or 10 400 200 (value_given (codes "weight") f.given)) (choice (value_given (codes "choose") f.given))) ≡ Some x
           → InRange x
       by_names [] h = absent x h
       by_names (t ∷ []) h = absent x h
-      by_names (t ∷ d ∷ []) h = make_is t d _ _ _ (number_is 1 100000 5000 (omega arith) (omega arith) (value_of (codes "budget") f.given))
-          (number_is 10 400 200 (omega arith) (omega arith) (value_of (codes "weight") f.given)) (choice_is (value_of (codes "choose") f.given)) h
+      by_names (t ∷ d ∷ []) h = make_is t d _ _ _ (number_is 1 100000 5000 (omega arith) (omega arith) (value_given (codes "budget") f.given))
+          (number_is 10 400 200 (omega arith) (omega arith) (value_given (codes "weight") f.given)) (choice_is (value_given (codes "choose") f.given)) h
       by_names (t ∷ d ∷ a ∷ ns) h = absent x h
 
   check_in : (f : Found) → check_from f ≡ Some x → InRange x
@@ -90,7 +90,7 @@ module _ (x : Command) where
     where
       by_names : (ns : List Text) → one ns (λ k. demo_of (number_between 1 300 k)) ≡ Some x → InRange x
       by_names [] h = absent x h
-      by_names (k ∷ []) h = demo_is (number_between 1 300 k) (within_is 1 300 (number_of k)) h
+      by_names (k ∷ []) h = demo_is (number_between 1 300 k) (within_is 1 300 (short_number k)) h
       by_names (k ∷ a ∷ ns) h = absent x h
 
   by_found : (go : Found → Option Command) → ((f : Found) → go f ≡ Some x → InRange x) → (o : Option Found) → option_and_then go o ≡ Some x → InRange x
@@ -101,10 +101,10 @@ module _ (x : Command) where
   first_in w ws e = by_tests (bytes_eq w (codes "make")) (bytes_eq w (codes "check")) (bytes_eq w (codes "theory")) (bytes_eq w (codes "demo")) e
     where
       by_tests : (a b c d : Bool) → cond a (read_as_make ws) (cond b (read_as_check ws) (cond c (read_as_theory ws) (cond d (read_as_demo ws) None))) ≡ Some x → InRange x
-      by_tests true b c d h = by_found make_from make_in (reading_by make ws) h
-      by_tests false true c d h = by_found check_from check_in (reading_by check ws) h
-      by_tests false false true d h = by_found theory_from theory_in (reading_by theory ws) h
-      by_tests false false false true h = by_found demo_from demo_in (reading_by demo ws) h
+      by_tests true b c d h = by_found make_from make_in (reading_by make_shape ws) h
+      by_tests false true c d h = by_found check_from check_in (reading_by check_shape ws) h
+      by_tests false false true d h = by_found theory_from theory_in (reading_by theory_shape ws) h
+      by_tests false false false true h = by_found demo_from demo_in (reading_by demo_shape ws) h
       by_tests false false false false h = absent x h
 
 pub ranges_hold : RangesHold

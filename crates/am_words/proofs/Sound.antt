@@ -10,7 +10,7 @@ use Rattle.clap.specs.Lexer.{usize_max}
 use Rattle.clap.specs.Words.{Rule}
 use Rattle.clap.specs.Walk.{arg_by_id, arg_by_index}
 use Rattle.am_words.specs.Grammar.{Text}
-use Rattle.am_words.specs.Slots.{Arguments, Slot, Slots, name, flag, id, differs, distinct, slots, same_slot, is_slot, number, has_id, at_number, are_placed, is_sound}
+use Rattle.am_words.specs.Slots.{Arguments, Slot, Slots, name, flag, id, differs, all_differ, slots, same_slot, is_slot, number, has_id, at_number, are_placed, is_sound}
 use Rattle.am_words.proofs.Walks.{rule, rules}
 use Rattle.am_words.proofs.Fills.{and_left, and_right}
 use Rattle.am_words.proofs.Agrees.{At, Fits, KnownOptions}
@@ -80,7 +80,7 @@ module _ (c : Arguments) (program : Text) where
   fits e =
       let p = are_placed (slots c) 1 c.names in
       let k = list_all (λ j. has_id (slots c) (flag j)) c.options in
-      let d = distinct c.names in
+      let d = all_differ c.names in
       let a = list_all (λ j. differs j c.names) c.options in
       record {
         places = all_placed 1 c.names (and_left p (k && (d && a)) e);

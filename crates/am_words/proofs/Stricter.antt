@@ -5,8 +5,8 @@ use Rattle.std.specs.Str.{bytes_eq}
 use Rattle.std.specs.List.{list_any, before_first, after_first}
 use Rattle.std.proofs.lemmas.Bool.Decides.{nat_tests}
 use Rattle.std.proofs.lemmas.Slice.Eq.{bytes_eq-Decides}
-use Rattle.am_words.specs.Grammar.{Found, Mode, OptionWord, Shape, Text, alone, and_name, and_option, begins, by_option, counted, is_dashes, is_option, line, loosely_by, named, option_word, plain, reading_by, unknown, value, value_of, with, with_name}
-use Rattle.am_words.specs.Commands.{check, check_from, demo, demo_from, make, make_from, make_of, read_as_check, read_as_demo, read_as_make, read_as_theory, theory, theory_from, two}
+use Rattle.am_words.specs.Grammar.{Found, Mode, OptionWord, CommandShape, Text, alone, and_name, and_option, begins, by_option, counted, is_dashes, is_option, said, loosely_by, option_named, option_word, plain, reading_by, unknown, value, value_given, with, with_name}
+use Rattle.am_words.specs.Commands.{check_shape, check_from, demo_shape, demo_from, make_shape, make_from, make_of, read_as_check, read_as_demo, read_as_make, read_as_theory, theory_shape, theory_from, two}
 use Rattle.am_words.specs.declared.command.Command.{Command}
 
 abbrev Hyphen : Text
@@ -20,7 +20,7 @@ module _ (options : List Text) where
   -- the two readings are one, or the first has the value `-` and the second is none
   data Near : Option Found → Option Found → Type 0 where
     one : (o : Option Found) → Near o o
-    spoilt : (k : Text) (f : Found) → Has k → value_of k f.given ≡ Some Hyphen → Near (Some f) None
+    spoilt : (k : Text) (f : Found) → Has k → value_given k f.given ≡ Some Hyphen → Near (Some f) None
 
   near_name : (w : Text) (o p : Option Found) → Near o p → Near (and_name w o) (and_name w p)
   near_name w o p (one q) = one (and_name w q)
@@ -28,13 +28,13 @@ module _ (options : List Text) where
 
   near_option : (i v : Text) (o p : Option Found) → Near o p → Near (and_option i v o) (and_option i v p)
   near_option i v o p (one q) = one (and_option i v q)
-  near_option i v o p (spoilt k f has e) = by_later (value_of i f.given) refl
+  near_option i v o p (spoilt k f has e) = by_later (value_given i f.given) refl
     where
-      by_key : (b : Bool) → bytes_eq i k ≡ b → value_of i f.given ≡ None → cond b (Some v) (value_of k f.given) ≡ Some Hyphen
-      by_key true h n = let same : i ≡ k = (bytes_eq-Decides i k).0 h in let none : value_of k f.given ≡ None = rw (← same) n in let bad : None ≡ Some Hyphen = rw (← none) e in absurd cc
+      by_key : (b : Bool) → bytes_eq i k ≡ b → value_given i f.given ≡ None → cond b (Some v) (value_given k f.given) ≡ Some Hyphen
+      by_key true h n = let same : i ≡ k = (bytes_eq-Decides i k).0 h in let none : value_given k f.given ≡ None = rw (← same) n in let bad : None ≡ Some Hyphen = rw (← none) e in absurd cc
       by_key false h n = e
 
-      by_later : (q : Option Text) → value_of i f.given ≡ q → Near (cond (is_some q) None (Some (record { names = f.names; given = (i, v) ∷ f.given }))) None
+      by_later : (q : Option Text) → value_given i f.given ≡ q → Near (cond (is_some q) None (Some (record { names = f.names; given = (i, v) ∷ f.given }))) None
       by_later None n = spoilt k (record { names = f.names; given = (i, v) ∷ f.given }) has (by_key (bytes_eq i k) refl n)
       by_later (Some x) n = one None
 
@@ -54,7 +54,7 @@ module _ (options : List Text) where
   known_word (x ∷ []) = tt
   known_word (x ∷ y ∷ r) = by_second (nat_eq y 45)
     where
-      by_second : (b : Bool) → Known (cond b (named options r) unknown)
+      by_second : (b : Bool) → Known (cond b (option_named options r) unknown)
       by_second true = known_name (before_first (λ c. c == 61) r) (find (λ k. bytes_eq k (before_first (λ c. c == 61) r)) options) (list_any (λ c. c == 61) r) (after_first (λ c. c == 61) r) refl
       by_second false = tt
 
@@ -71,12 +71,12 @@ module _ (options : List Text) where
   near_short : (k : Text) (x : ℕ) (b : Bool) (o p : Option Found) → Has k → nat_eq x 45 ≡ b → Near o p → Near (and_option k (x ∷ []) o) (cond b None (and_option k (x ∷ []) p))
   near_short k x false o p has e h = near_option k (x ∷ []) o p h
   near_short k x true None p has e h = one None
-  near_short k x true (Some f) p has e h = by_later (value_of k f.given)
+  near_short k x true (Some f) p has e h = by_later (value_given k f.given)
     where
       x_is : x ≡ 45
       x_is = grind (arith, nat_tests)
 
-      own : value_of k ((k, x ∷ []) ∷ f.given) ≡ Some Hyphen
+      own : value_given k ((k, x ∷ []) ∷ f.given) ≡ Some Hyphen
       own = rw ((bytes_eq-Decides k k).1 refl, x_is) refl
 
       by_later : (q : Option Text) → Near (cond (is_some q) None (Some (record { names = f.names; given = (k, x ∷ []) ∷ f.given }))) None
@@ -92,8 +92,8 @@ module _ (options : List Text) where
   Wants plain = Unit {0}
   Wants (value k) = Has k
 
-  near : (m : Mode) (ws : List Text) → Wants m → Near (line is_option options m ws) (line begins options m ws)
-  unfolding line
+  near : (m : Mode) (ws : List Text) → Wants m → Near (said is_option options m ws) (said begins options m ws)
+  unfolding said
   near plain [] h = one _
   near (value k) [] h = one _
   near (value k) ([] ∷ ws) h = near_option k [] _ _ (near plain ws tt)
@@ -104,9 +104,9 @@ module _ (options : List Text) where
 
 -- `-` is no value of any of these options
 abbrev Refuses : {X : Type 0} → List Text → (Found → Option X) → Type 0
-Refuses options go = (n k : Text) (f : Found) → find (λ j. bytes_eq j n) options ≡ Some k → value_of k f.given ≡ Some Hyphen → go f ≡ None
+Refuses options go = (n k : Text) (f : Found) → find (λ j. bytes_eq j n) options ≡ Some k → value_given k f.given ≡ Some Hyphen → go f ≡ None
 
-module _ {X : Type 0} (s : Shape) (go : Found → Option X) (refuses : Refuses s.options go) where
+module _ {X : Type 0} (s : CommandShape) (go : Found → Option X) (refuses : Refuses s.options go) where
   by_near : (o p : Option Found) → Near s.options o p → option_and_then go (counted s p) ≡ option_and_then go (counted s o)
   by_near o p (one q) = refl
   by_near o p (spoilt k f has e) = by_count (nat_eq s.count (length f.names))
@@ -123,7 +123,7 @@ module _ {X : Type 0} (s : Shape) (go : Found → Option X) (refuses : Refuses s
 none_refuses : {X : Type 0} (go : Found → Option X) → Refuses [] go
 none_refuses go n k f e = let bad : None ≡ Some k = e in absurd cc
 
-also_refuses : {X : Type 0} (o : Text) (os : List Text) (go : Found → Option X) → ((f : Found) → value_of o f.given ≡ Some Hyphen → go f ≡ None) → Refuses os go → Refuses (o ∷ os) go
+also_refuses : {X : Type 0} (o : Text) (os : List Text) (go : Found → Option X) → ((f : Found) → value_given o f.given ≡ Some Hyphen → go f ≡ None) → Refuses os go → Refuses (o ∷ os) go
 also_refuses o os go h hs n k f e v = by_head (bytes_eq o n) e
   where
     by_head : (b : Bool) → cond b (Some o) (find (λ j. bytes_eq j n) os) ≡ Some k → go f ≡ None
@@ -145,21 +145,21 @@ no_choice t d None w = refl
 no_choice t d (Some b) None = refl
 no_choice t d (Some b) (Some w) = refl
 
-make_refuses : Refuses make.options make_from
+make_refuses : Refuses make_shape.options make_from
 make_refuses =
     also_refuses (codes "budget") (codes "weight" ∷ codes "choose" ∷ []) make_from (λ f e. two_none f.names _ (λ a b. rw e refl))
     (also_refuses (codes "weight") (codes "choose" ∷ []) make_from (λ f e. two_none f.names _ (λ a b. rw e (no_weight a b _ _)))
     (also_refuses (codes "choose") [] make_from (λ f e. two_none f.names _ (λ a b. rw e (no_choice a b _ _)))
     (none_refuses make_from)))
 
-pub make_is : (words : List Text) → read_as_make words ≡ option_and_then make_from (loosely_by make words)
-make_is words = strict_is make make_from make_refuses words
+pub make_is : (words : List Text) → read_as_make words ≡ option_and_then make_from (loosely_by make_shape words)
+make_is words = strict_is make_shape make_from make_refuses words
 
-pub check_is : (words : List Text) → read_as_check words ≡ option_and_then check_from (loosely_by check words)
-check_is words = strict_is check check_from (none_refuses check_from) words
+pub check_is : (words : List Text) → read_as_check words ≡ option_and_then check_from (loosely_by check_shape words)
+check_is words = strict_is check_shape check_from (none_refuses check_from) words
 
-pub theory_is : (words : List Text) → read_as_theory words ≡ option_and_then theory_from (loosely_by theory words)
-theory_is words = strict_is theory theory_from (none_refuses theory_from) words
+pub theory_is : (words : List Text) → read_as_theory words ≡ option_and_then theory_from (loosely_by theory_shape words)
+theory_is words = strict_is theory_shape theory_from (none_refuses theory_from) words
 
-pub demo_is : (words : List Text) → read_as_demo words ≡ option_and_then demo_from (loosely_by demo words)
-demo_is words = strict_is demo demo_from (none_refuses demo_from) words
+pub demo_is : (words : List Text) → read_as_demo words ≡ option_and_then demo_from (loosely_by demo_shape words)
+demo_is words = strict_is demo_shape demo_from (none_refuses demo_from) words

@@ -1,7 +1,7 @@
 -- The commands, and what their words ask for.
 use Rattle.std.specs.Prelude.{ℕ, cond, codes, List, [], ◌∷◌, Option, Some, None, option_and_then}
 use Rattle.std.specs.Str.{bytes_eq}
-use Rattle.am_words.specs.Grammar.{Found, Shape, Text, reading_by, value_of}
+use Rattle.am_words.specs.Grammar.{Found, CommandShape, Text, reading_by, value_given}
 use Rattle.am_words.specs.Numbers.{choice, number_between, number_or}
 use Rattle.am_words.specs.declared.command.Command.{Command}
 use Rattle.am_words.specs.declared.command.Command.TheVariants.{Make, Check, Theory, Demo}
@@ -22,8 +22,8 @@ three _ go = None
 
 -- ---- make THEORY DIAGRAM [--budget N] [--weight W] [--choose weight|age|mixed]
 
-abbrev pub make : Shape
-make = record { count = 2; options = codes "budget" ∷ codes "weight" ∷ codes "choose" ∷ [] }
+abbrev pub make_shape : CommandShape
+make_shape = record { count = 2; options = codes "budget" ∷ codes "weight" ∷ codes "choose" ∷ [] }
 
 abbrev pub make_of : Text → Text → Option ℕ → Option ℕ → Option ℕ → Option Command
 make_of t d (Some b) (Some w) (Some c) = Some (Make t d b w c)
@@ -32,30 +32,30 @@ make_of t d _ _ _ = None
 -- N is 1 to 100,000, 5,000 where it isn't given; W is 10 to 400, else 200
 abbrev pub make_from : Found → Option Command
 make_from f = two f.names (λ t d. make_of t d
-    (number_or 1 100000 5000 (value_of (codes "budget") f.given))
-    (number_or 10 400 200 (value_of (codes "weight") f.given))
-    (choice (value_of (codes "choose") f.given)))
+    (number_or 1 100000 5000 (value_given (codes "budget") f.given))
+    (number_or 10 400 200 (value_given (codes "weight") f.given))
+    (choice (value_given (codes "choose") f.given)))
 
 -- ---- check THEORY DIAGRAM TEXT
 
-abbrev pub check : Shape
-check = record { count = 3; options = [] }
+abbrev pub check_shape : CommandShape
+check_shape = record { count = 3; options = [] }
 
 abbrev pub check_from : Found → Option Command
 check_from f = three f.names (λ t d x. Some (Check t d x))
 
 -- ---- theory THEORY
 
-abbrev pub theory : Shape
-theory = record { count = 1; options = [] }
+abbrev pub theory_shape : CommandShape
+theory_shape = record { count = 1; options = [] }
 
 abbrev pub theory_from : Found → Option Command
 theory_from f = one f.names (λ t. Some (Theory t))
 
 -- ---- demo K
 
-abbrev pub demo : Shape
-demo = record { count = 1; options = [] }
+abbrev pub demo_shape : CommandShape
+demo_shape = record { count = 1; options = [] }
 
 abbrev pub demo_of : Option ℕ → Option Command
 demo_of None = None
@@ -68,16 +68,16 @@ demo_from f = one f.names (λ k. demo_of (number_between 1 300 k))
 -- ---- the words behind a command's name
 
 abbrev pub read_as_make : List Text → Option Command
-read_as_make words = option_and_then make_from (reading_by make words)
+read_as_make words = option_and_then make_from (reading_by make_shape words)
 
 abbrev pub read_as_check : List Text → Option Command
-read_as_check words = option_and_then check_from (reading_by check words)
+read_as_check words = option_and_then check_from (reading_by check_shape words)
 
 abbrev pub read_as_theory : List Text → Option Command
-read_as_theory words = option_and_then theory_from (reading_by theory words)
+read_as_theory words = option_and_then theory_from (reading_by theory_shape words)
 
 abbrev pub read_as_demo : List Text → Option Command
-read_as_demo words = option_and_then demo_from (reading_by demo words)
+read_as_demo words = option_and_then demo_from (reading_by demo_shape words)
 
 -- ---- the first word is the command
 

@@ -8,7 +8,7 @@ abbrev pub Text : Type 0
 Text = List ℕ
 
 -- how many names a command takes, and what its options are called
-pub record Shape : Type 0 where
+pub record CommandShape : Type 0 where
   pub count : ℕ
   pub options : List Text
 
@@ -18,9 +18,9 @@ pub record Found : Type 0 where
   pub given : List (Text × Text)
 
 -- the value that was given for an option
-abbrev pub value_of : Text → List (Text × Text) → Option Text
-value_of k [] = None
-value_of k (g ∷ gs) = cond (bytes_eq g.0 k) (Some g.1) (value_of k gs)
+abbrev pub value_given : Text → List (Text × Text) → Option Text
+value_given k [] = None
+value_given k (g ∷ gs) = cond (bytes_eq g.0 k) (Some g.1) (value_given k gs)
 
 -- ---- one word (45 is `-`, 61 is `=`)
 
@@ -50,12 +50,12 @@ with_name (Some k) true v = with k v
 with_name (Some k) false v = alone k
 
 -- all that follows `--`: the option's name, up to the first `=`, and its value behind that
-abbrev pub named : List Text → Text → OptionWord
-named options rest = with_name (find (λ k. bytes_eq k (before_first (λ c. c == 61) rest)) options) (list_any (λ c. c == 61) rest) (after_first (λ c. c == 61) rest)
+abbrev pub option_named : List Text → Text → OptionWord
+option_named options rest = with_name (find (λ k. bytes_eq k (before_first (λ c. c == 61) rest)) options) (list_any (λ c. c == 61) rest) (after_first (λ c. c == 61) rest)
 
 -- which option it is: a word that begins with one `-` is none
 abbrev pub option_word : List Text → Text → OptionWord
-option_word options (x ∷ y ∷ rest) = cond (nat_eq y 45) (named options rest) unknown
+option_word options (x ∷ y ∷ rest) = cond (nat_eq y 45) (option_named options rest) unknown
 option_word options _ = unknown
 
 abbrev pub by_option : OptionWord → (Text → Option Found) → (Text → Text → Option Found) → Option Found
@@ -73,7 +73,7 @@ and_name n (Some f) = Some (record { names = n ∷ f.names; given = f.given })
 -- an option and its value, before what further words say: these may not give it again
 abbrev pub and_option : Text → Text → Option Found → Option Found
 and_option k v None = None
-and_option k v (Some f) = cond (is_some (value_of k f.given)) None (Some (record { names = f.names; given = (k, v) ∷ f.given }))
+and_option k v (Some f) = cond (is_some (value_given k f.given)) None (Some (record { names = f.names; given = (k, v) ∷ f.given }))
 
 -- any word may come, or the value of an option must
 pub data Mode : Type 0 where
@@ -83,26 +83,26 @@ pub data Mode : Type 0 where
 -- What words say, where `bars` tells which words are no value of an option. The end of the words ends all but a wanted
 -- value. Behind `--` each word is a name. Else an option is one of the command's, with its value behind `=` or as the next
 -- word, and any other word is a name.
-unfoldable pub line : (Text → Bool) → List Text → Mode → List Text → Option Found
-line bars options plain [] = Some (record { names = []; given = [] })
-line bars options (value k) [] = None
-line bars options (value k) (w ∷ ws) = cond (bars w) None (and_option k w (line bars options plain ws))
-line bars options plain (w ∷ ws) =
+unfoldable pub said : (Text → Bool) → List Text → Mode → List Text → Option Found
+said bars options plain [] = Some (record { names = []; given = [] })
+said bars options (value k) [] = None
+said bars options (value k) (w ∷ ws) = cond (bars w) None (and_option k w (said bars options plain ws))
+said bars options plain (w ∷ ws) =
     cond (is_dashes w) (Some (record { names = ws; given = [] }))
-    (cond (is_option w) (by_option (option_word options w) (λ k. line bars options (value k) ws) (λ k v. and_option k v (line bars options plain ws)))
-    (and_name w (line bars options plain ws)))
+    (cond (is_option w) (by_option (option_word options w) (λ k. said bars options (value k) ws) (λ k v. and_option k v (said bars options plain ws)))
+    (and_name w (said bars options plain ws)))
 
 -- there are as many names as the command takes
-abbrev pub counted : Shape → Option Found → Option Found
+abbrev pub counted : CommandShape → Option Found → Option Found
 counted s None = None
 counted s (Some f) = cond (nat_eq s.count (length f.names)) (Some f) None
 
 -- The one reading of the words, if they have one: the value of an option that is a word of its own may not begin with `-`.
-abbrev pub reading_by : Shape → List Text → Option Found
-reading_by s words = counted s (line begins s.options plain words)
+abbrev pub reading_by : CommandShape → List Text → Option Found
+reading_by s words = counted s (said begins s.options plain words)
 
 -- ---- a form for private contracts
 
 -- The same, but the word `-` alone passes as a value. For options that take no such value this is no difference.
-abbrev pub loosely_by : Shape → List Text → Option Found
-loosely_by s words = counted s (line is_option s.options plain words)
+abbrev pub loosely_by : CommandShape → List Text → Option Found
+loosely_by s words = counted s (said is_option s.options plain words)

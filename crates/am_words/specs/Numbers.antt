@@ -1,17 +1,14 @@
 -- Numbers and choices among the words.
-use Rattle.std.specs.Prelude.{◌&&◌, ℕ, Bool, cond, codes, nat_le, nat_lt, length, Option, Some, None}
+use Rattle.std.specs.Prelude.{◌&&◌, ℕ, cond, codes, nat_le, length, Option, Some, None}
 use Rattle.std.specs.List.{list_all}
 use Rattle.std.specs.Str.{bytes_eq}
 use Rattle.std.specs.Str.Parse.{digits_value}
+use Rattle.am_term.specs.Names.{is_digit}
 use Rattle.am_words.specs.Grammar.{Text}
 
--- a decimal digit: 48 is `0`
-abbrev pub is_digit : ℕ → Bool
-is_digit b = nat_le 48 b && nat_lt b 58
-
 -- one to nine digits, with their decimal value
-abbrev pub number_of : Text → Option ℕ
-number_of text = cond (nat_le 1 (length text) && (nat_le (length text) 9 && list_all is_digit text)) (Some (digits_value 10 text)) None
+abbrev pub short_number : Text → Option ℕ
+short_number text = cond (nat_le 1 (length text) && (nat_le (length text) 9 && list_all is_digit text)) (Some (digits_value 10 text)) None
 
 abbrev pub within : ℕ → ℕ → Option ℕ → Option ℕ
 within least most None = None
@@ -19,7 +16,7 @@ within least most (Some n) = cond (nat_le least n && nat_le n most) (Some n) Non
 
 -- a number in the range
 abbrev pub number_between : ℕ → ℕ → Text → Option ℕ
-number_between least most text = within least most (number_of text)
+number_between least most text = within least most (short_number text)
 
 -- the number of an option: where no value is given, the default
 abbrev pub number_or : ℕ → ℕ → ℕ → Option Text → Option ℕ

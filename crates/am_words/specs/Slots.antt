@@ -20,12 +20,12 @@ pub record Arguments : Type 0 where
 abbrev pub texts : List (Bor Text) → List Text
 texts = map (λ r. r.now)
 
-abbrev pub arguments : List Text → List Text → Arguments
-arguments names options = record { names = names; options = options }
+abbrev pub command_of : List Text → List Text → Arguments
+command_of names options = record { names = names; options = options }
 
 -- what it says of the words
-abbrev pub shape : Arguments → grammar.Shape
-shape c = record { count = length c.names; options = c.options }
+abbrev pub command_shape : Arguments → grammar.CommandShape
+command_shape c = record { count = length c.names; options = c.options }
 
 -- ---- what `clap` is told
 
@@ -67,9 +67,9 @@ abbrev pub differs : Text → List Text → Bool
 differs k [] = true
 differs k (j ∷ js) = not (bytes_eq k j) && (not (bytes_eq j k) && differs k js)
 
-abbrev pub distinct : List Text → Bool
-distinct [] = true
-distinct (k ∷ ks) = differs k ks && distinct ks
+abbrev pub all_differ : List Text → Bool
+all_differ [] = true
+all_differ (k ∷ ks) = differs k ks && all_differ ks
 
 -- the slots are the same
 abbrev pub same_slot : Slot → Slot → Bool
@@ -101,7 +101,7 @@ are_placed ss i (k ∷ ks) = is_slot (at_number ss i) (name i k) && (has_id ss (
 -- each argument is found by its number and its id, and no two share one
 abbrev pub is_sound : Arguments → Bool
 is_sound c = are_placed (slots c) 1 c.names && (list_all (λ k. has_id (slots c) (flag k)) c.options
-    && (distinct c.names && list_all (λ k. differs k c.names) c.options))
+    && (all_differ c.names && list_all (λ k. differs k c.names) c.options))
 
 -- ---- the builder, one argument after the other
 

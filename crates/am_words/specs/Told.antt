@@ -4,8 +4,8 @@ use Rattle.std.specs.Str.{bytes_eq}
 use Rattle.clap.specs.Words.{first_value, found_of}
 use Rattle.clap.specs.declared.parser.matches.Found.{Found as Entries}
 use Rattle.clap.specs.declared.ArgMatches.{ArgMatches}
-use Rattle.am_words.specs.Grammar.{Found, Text, loosely_by, value_of}
-use Rattle.am_words.specs.Slots.{Arguments, shape}
+use Rattle.am_words.specs.Grammar.{Found, Text, loosely_by, value_given}
+use Rattle.am_words.specs.Slots.{Arguments, command_shape}
 
 -- the names stand under their ids
 abbrev pub HasNames : Entries → List Text → List Text → Type 0
@@ -17,10 +17,10 @@ HasNames m (k ∷ ks) (n ∷ ns) = (first_value m k ≡ Some n) × HasNames m ks
 -- the matches are this reading
 pub record IsTold (c : Arguments) (f : Found) (m : ArgMatches) : Type 0 where
   pub names : HasNames (found_of m) c.names f.names
-  pub options : (k : Text) → find (λ j. bytes_eq j k) c.options ≡ Some k → first_value (found_of m) k ≡ value_of k f.given
+  pub options : (k : Text) → find (λ j. bytes_eq j k) c.options ≡ Some k → first_value (found_of m) k ≡ value_given k f.given
 
 -- the matches are the reading of the words, in which `-` alone passes as a value
 pub record IsReadAs (c : Arguments) (words : List Text) (m : ArgMatches) : Type 0 where
   pub found : Found
-  pub is : loosely_by (shape c) words ≡ Some found
+  pub is : loosely_by (command_shape c) words ≡ Some found
   pub told : IsTold c found m

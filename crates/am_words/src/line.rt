@@ -2,7 +2,7 @@ ghost use Rattle.std.specs.Prelude.{◌≡◌, ◌≢◌, IfOk, Err, None, [], f
 ghost use Rattle.clap.specs.Words.{app_of, fault_of, found_of, is_simple_and_free, matches_of, rows_of, rule_of};
 ghost use Rattle.am_words.specs.Grammar.{loosely_by};
 ghost use Rattle.am_words.specs.Told.{IsReadAs};
-ghost use Rattle.am_words.specs.Slots.{arguments, is_sound, shape, texts};
+ghost use Rattle.am_words.specs.Slots.{command_of, is_sound, command_shape, texts};
 ghost use Rattle.am_words.specs.Slots.{app_by, bare_app, flag, name, told, with_names, with_options};
 
 use crate::fault::WordsFault;
@@ -75,7 +75,7 @@ fn command_for<'a>(
     options: &'a [&'a str],
 ) -> Result<Command<'a>, AllocError>
     ensures { IfOk result (λ c. app_of c ≡ app_by program.entry.now
-        (arguments (texts names.entry.now) (texts options.entry.now))) }
+        (command_of (texts names.entry.now) (texts options.entry.now))) }
 {
     let command = name_all(alloc, bare(alloc, program), names)?;
     option_all(alloc, command, options)
@@ -107,12 +107,12 @@ pub fn matches_for<'a>(
     options: &'a [&'a str],
     words: &'a [String],
 ) -> Result<ArgMatches<'a>, WordsFault>
-    requires sound { is_sound (arguments (texts names.now) (texts options.now)) ≡ true }
-    requires free { is_simple_and_free (app_by program.now (arguments (texts names.now) (texts options.now))) ≡ true }
-    ensures ok { IfOk result (IsReadAs (arguments (texts names.entry.now) (texts options.entry.now))
+    requires sound { is_sound (command_of (texts names.now) (texts options.now)) ≡ true }
+    requires free { is_simple_and_free (app_by program.now (command_of (texts names.now) (texts options.now))) ≡ true }
+    ensures ok { IfOk result (IsReadAs (command_of (texts names.entry.now) (texts options.entry.now))
         (drop 1 (map string_bytes words.entry.now))) }
     ensures usage { result ≡ Err WordsFault.Usage →
-        loosely_by (shape (arguments (texts names.entry.now) (texts options.entry.now)))
+        loosely_by (command_shape (command_of (texts names.entry.now) (texts options.entry.now)))
         (drop 1 (map string_bytes words.entry.now)) ≡ None }
 {
     match command_for(alloc, program, names, options) {

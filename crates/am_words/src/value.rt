@@ -1,6 +1,7 @@
 ghost use Rattle.std.specs.List.{list_all};
 ghost use Rattle.std.specs.Prelude.{◌≡◌, IfOk, IfErr, option_map};
-ghost use Rattle.am_words.specs.Numbers.{number_between, number_of, number_or, choice, is_digit as digit};
+ghost use Rattle.am_term.specs.Names.{is_digit as digit};
+ghost use Rattle.am_words.specs.Numbers.{number_between, short_number, number_or, choice};
 
 use crate::fault::WordsFault;
 use am_term::Name;
@@ -33,7 +34,7 @@ fn all_digits(text: &str) -> bool
 
 /// The number that one to nine digits are.
 pub fn nine_digits(text: &str) -> Option<u32>
-    ensures { result ≡ number_of text.now }
+    ensures { result ≡ short_number text.now }
 {
     if text.len() < 1 || text.len() > 9 || !all_digits(text) {
         return None;

@@ -1,8 +1,8 @@
 //! Interpretations of a signature by whole numbers, and what is true in them.
 //!
 //! `specs/Interpretation.antt` says what an interpretation is, `Value` which number a term stands for,
-//! `Truth` which formulas hold, `ClauseTruth` which clauses, `Holding` which clauses with an answer, `Questions` what is
-//! asked of answers. Nothing here computes: a world has members for contracts alone, so
+//! `Truth` which formulas hold, `ClauseTruth` which clauses, `Holding` which clauses with an answer, `Questions` what
+//! is asked of answers. Nothing here computes: a world has members for contracts alone, so
 //! no byte that a program prints can depend on one. The crate rests on `am_term` and `am_clause`.
 #![tactic(auto)]
 

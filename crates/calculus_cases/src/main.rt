@@ -1,5 +1,5 @@
-//! Answers cases of rules of inference, of rewriting and of dropping: each line of standard input is a call and what it is made with, each line
-//! of standard output its answer.
+//! Answers cases of rules of inference, of rewriting and of dropping: each line of standard input is a call and what it
+//! is made with, each line of standard output its answer.
 //!
 //! The file `stdin` says which calls there are, and the file `stdout` has answers worked out by hand. A line that
 //! begins with `#` is passed over, one that begins with `over` declares the symbols of the cases behind it, and one

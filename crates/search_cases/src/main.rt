@@ -3,12 +3,12 @@
 //!
 //! A line that begins with `|` goes on with the part before it, and is a line of its text; src/notation.rt says what
 //! stands for what is hard to see. Any other line begins a part: `theory` and `diagram` are read for the cases behind
-//! them; `search BUDGET WEIGHT CHOOSER` searches with these limits and a chooser: `weight`, `age`, `mixed`, `last`, which
-//! picks the last place, or `noting`, which goes by weight and tells what it was shown. Its answer has the end, the
-//! number of inferences, the rows that were chosen, the fate of each inferred row, the number of rows of the log, and,
-//! for `noting`, each list of rows that waited, as NUMBER:WEIGHT; `pick CHOOSER TIMES NUMBER:WEIGHT ..` asks a chooser
-//! so many times for these rows, and its answer has the numbers of those that were picked. A line that begins with `#`
-//! is printed as it is.
+//! them; `search BUDGET WEIGHT CHOOSER` searches with these limits and a chooser: `weight`, `age`, `mixed`, `last`,
+//! which picks the last place, or `noting`, which goes by weight and tells what it was shown. Its answer has the end,
+//! the number of inferences, the rows that were chosen, the fate of each inferred row, the number of rows of the log,
+//! and, for `noting`, each list of rows that waited, as NUMBER:WEIGHT; `pick CHOOSER TIMES NUMBER:WEIGHT ..` asks a
+//! chooser so many times for these rows, and its answer has the numbers of those that were picked. A line that begins
+//! with `#` is printed as it is.
 #![tactic(auto)]
 
 mod answers;

@@ -1,8 +1,8 @@
 //! Cases of units: texts that are read and written again, units run by terms, and answers planned.
 //!
 //! Standard input has sections. A section begins with a line `== KIND`, and its other lines are one case; behind
-//! `== each KIND` each line is one. A line that begins with `#` is a comment. The kinds `theory`, `below`, `diagram`
-//! and `front` say what the cases behind them are about; `answer` has the others. No output is taken from the program:
+//! `== each KIND` each line is one. A line that begins with `#` is a comment. The kinds `theory`, `diagram` and
+//! `front` say what the cases behind them are about; `answer` has the others. No output is taken from the program:
 //! what it has to answer is worked out by hand from the definitions.
 #![tactic(auto)]
 
@@ -38,7 +38,6 @@ fn answers(alloc: Global, input: &str) -> Result<String, NoMemory> {
     let input = without_comments(alloc, input)?;
     let mut scene = Scene {
         theory: "",
-        below: "",
         diagram: "",
         front: "",
     };
@@ -47,7 +46,6 @@ fn answers(alloc: Global, input: &str) -> Result<String, NoMemory> {
         let (kind, body) = section.split_once('\n').unwrap_or((section, ""));
         match kind {
             "theory" => scene.theory = body,
-            "below" => scene.below = body,
             "diagram" => scene.diagram = body,
             "front" => scene.front = body,
             _ => push_answers(alloc, &scene, kind, body, &mut out)?,

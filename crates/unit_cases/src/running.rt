@@ -1,21 +1,16 @@
-ghost use Rattle.std.specs.Prelude.{◌≡◌, ◌<◌, ℕ, Some, length, slice_get, IfOk};
-ghost use Rattle.am_term.specs.declared.id.SortId.{SortId as Sort};
-
 use crate::fault::CaseFault;
 use crate::scene::Scene;
 use crate::terms::terms_text;
 use crate::texts::unit_of;
 use am_exec::{ExecFault, ExecKind, symbolic};
 use am_fortran::Unit;
-use am_term::{Name, NoMemory, SortId};
-use sqlite_items::Items;
+use am_term::NoMemory;
 use std::alloc::Global;
 
 /// The terms that a unit of these statements leaves in the outputs.
 pub fn run_answer(alloc: Global, scene: &Scene, statements: &str) -> Result<String, CaseFault> {
-    let mut theory = scene.theory(alloc)?;
+    let theory = scene.theory(alloc)?;
     let diagram = scene.diagram(alloc, &theory)?;
-    theory.sig.parents = parents(alloc, theory.sig.sorts.as_slice(), scene.below.trim())?;
     let unit = unit_between(alloc, scene.front, statements)?;
     if unit.declarations.len() > 1000 || unit.statements.len() > 1000 {
         return Err(CaseFault::said(alloc, "too long"));
@@ -36,25 +31,6 @@ fn unit_between(alloc: Global, front: &str, statements: &str) -> Result<Unit, Ca
     }
     text.push_str("      END\n")?;
     unit_of(alloc, text.as_bytes())
-}
-
-// The parents where the first sort of a text is below the second, which is an earlier one.
-fn parents(alloc: Global, sorts: &[Name], below: &str) -> Result<Items<Option<SortId>>, NoMemory>
-    ensures parented { IfOk result (λ ps. length ps ≡ length sorts.now) }
-    ensures lower { IfOk result (λ ps. (s : ℕ) (p : Sort) → slice_get ps s ≡ Some (Some p) → p.0 < s) }
-{
-    let (sort, above) = below.split_once(' ').unwrap_or(("", ""));
-    let mut place = 0u32;
-    let mut parent = None;
-    let mut parents = Items::new(alloc);
-    for name in sorts {
-        parents.push(if name.as_str() == sort { parent } else { None })?;
-        if name.as_str() == above {
-            parent = Some(SortId(place));
-        }
-        place = place.saturating_add(1);
-    }
-    Ok(parents)
 }
 
 fn fault_text(alloc: Global, fault: ExecFault) -> Result<String, NoMemory> {

@@ -7,12 +7,10 @@ use am_diagram::{Diagram, read_diagram};
 use am_theory::{Theory, read_theory};
 use std::alloc::Global;
 
-/// What the cases are about: the files of a theory and of a diagram, a sort of the theory and the sort that it is
-/// below, which no file says, and the lines before those of a case.
+/// What the cases are about: the files of a theory and of a diagram, and the lines before those of a case.
 #[derive(Clone, Copy)]
 pub struct Scene<'a> {
     pub theory: &'a str,
-    pub below: &'a str,
     pub diagram: &'a str,
     pub front: &'a str,
 }

@@ -1,6 +1,6 @@
 use Rattle.std.proofs.Common.{◌≡◌, ◌++◌}
-use Rattle.am_demo.specs.Files.{lines, function_line}
+use Rattle.am_demo.specs.Files.{lines_to, function_line}
 use Rattle.am_demo.proofs.files.push_functions.Given as goal
 
 abbrev pub invariant-loop-i : goal.invariant-loop-i
-invariant-loop-i l = l.text.items ≡ l.fn.text.items ++ lines function_line l.i
+invariant-loop-i l = l.text.items ≡ l.fn.text.items ++ lines_to function_line l.i

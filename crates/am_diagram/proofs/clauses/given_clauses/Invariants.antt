@@ -1,5 +1,5 @@
 use Rattle.std.proofs.Common.{◌≡◌, map, take}
-use Rattle.am_diagram.specs.Clauses.{given_clause}
+use Rattle.am_clause.specs.Goals.{given_clause}
 use Rattle.am_diagram.proofs.clauses.given_clauses.Given as goal
 
 abbrev pub invariant-loop-given : goal.invariant-loop-given

@@ -1,6 +1,6 @@
 -- The variables of the goal are few.
 use Rattle.std.proofs.Common.{◌∙◌, ap, map}
-use Rattle.am_diagram.specs.Clauses.{negated}
+use Rattle.am_clause.specs.Goals.{negated}
 use Rattle.am_diagram.proofs.clauses.goal_of.Goals as goal
 use Rattle.am_diagram.proofs.GoalVariables.{few-of}
 

@@ -1,5 +1,5 @@
 use Rattle.std.proofs.Common.{◌≡◌, map, take}
-use Rattle.am_diagram.specs.Clauses.{negated}
+use Rattle.am_clause.specs.Goals.{negated}
 use Rattle.am_diagram.proofs.clauses.negated_all.Given as goal
 
 abbrev pub invariant-loop-literal : goal.invariant-loop-literal

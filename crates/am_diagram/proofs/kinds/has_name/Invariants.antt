@@ -1,11 +1,11 @@
-use Rattle.am_diagram.specs.Listed.{names_of}
+use Rattle.am_diagram.specs.Listed.{entry_names}
 use Rattle.std.proofs.Common.{◌≡◌, length}
 use Rattle.am_term.specs.NameLists.{is_among}
 use Rattle.am_diagram.proofs.kinds.has_name.Given as goal
 
 -- what is left decides
 abbrev pub invariant-loop-rest : goal.invariant-loop-rest
-invariant-loop-rest l = is_among l.name (names_of l.rest) ≡ is_among l.name (names_of l.entries)
+invariant-loop-rest l = is_among l.name (entry_names l.rest) ≡ is_among l.name (entry_names l.entries)
 
 abbrev pub decreases-loop-rest : goal.decreases-loop-rest
 decreases-loop-rest l = length l.rest

@@ -1,7 +1,7 @@
 use Rattle.std.proofs.Common.{◌≡◌, take}
-use Rattle.am_diagram.specs.Listed.{sorts_in}
+use Rattle.am_diagram.specs.Listed.{entry_sorts}
 use Rattle.am_exec.proofs.running.input_sorts.Given as goal
 
 -- the sorts so far
 abbrev pub invariant-loop-input : goal.invariant-loop-input
-invariant-loop-input l = l.sorts ≡ sorts_in (take l.input-index l.diagram.inputs)
+invariant-loop-input l = l.sorts ≡ entry_sorts (take l.input-index l.diagram.inputs)

@@ -1,6 +1,6 @@
 use Rattle.std.proofs.Common.{◌≡◌, ◌≤◌, ◌+◌, ◌*◌, drop, map, length}
 use Rattle.am_unify.specs.Matching.{match_all, matched}
-use Rattle.am_sharing.specs.Bound.{bound}
+use Rattle.am_sharing.specs.Bound.{id_bound}
 use Rattle.am_sharing.specs.Pairs.{pairs_at, pairs_bound}
 use Rattle.am_sharing.specs.SortTable.{IsSortTable}
 use Rattle.am_sharing.specs.Terms.{terms_at}
@@ -10,7 +10,7 @@ abbrev pub decreases-extended : goal.decreases-extended
 decreases-extended l = 2 * l.pattern.0 + 1
 
 abbrev pub decreases-extended_all : goal.decreases-extended_all
-decreases-extended_all l = 2 * bound l.patterns.now
+decreases-extended_all l = 2 * id_bound l.patterns.now
 
 -- the table is one of sorts, and what is left decides
 abbrev pub invariant-extended_all-loop-i : goal.invariant-extended_all-loop-i

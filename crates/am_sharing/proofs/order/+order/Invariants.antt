@@ -1,16 +1,16 @@
 use Rattle.std.proofs.Common.{◌≡◌, ◌+◌, ◌*◌, true, false, take}
 use Rattle.am_sharing.specs.Terms.{some_reaches, exceeds_all}
-use Rattle.am_sharing.specs.Bound.{bound}
+use Rattle.am_sharing.specs.Bound.{id_bound}
 use Rattle.am_sharing.proofs.order.+order.Given as goal
 
 abbrev pub decreases-greater : goal.decreases-greater
 decreases-greater l = 2 * (l.s.0 + l.t.0) + 1
 
 abbrev pub decreases-reaches : goal.decreases-reaches
-decreases-reaches l = 2 * (bound l.terms.now + l.t.0)
+decreases-reaches l = 2 * (id_bound l.terms.now + l.t.0)
 
 abbrev pub decreases-exceeds : goal.decreases-exceeds
-decreases-exceeds l = 2 * (l.s.0 + bound l.terms.now)
+decreases-exceeds l = 2 * (l.s.0 + id_bound l.terms.now)
 
 -- no term so far reaches
 abbrev pub invariant-reaches-loop-term : goal.invariant-reaches-loop-term
