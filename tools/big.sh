@@ -169,7 +169,8 @@ echo "text: $(wc -c < "$folder/rows") bytes"
 timed check $data/two_routines.theory $data/conv.diagram "$folder/rows"
 
 # A forged row whose lists put a term of 131,072 leaves in the place of each of 16,384 variables: as a tree the instance would
-# have thousands of millions of nodes, and it isn't made.
+# have thousands of millions of nodes. It isn't made, and the row is refused (status 5), since the parts that should be equal
+# have other sizes.
 awk 'function tree(depth, leaf, t) { for (t = leaf; depth > 0; depth--) t = "(h " t " " t ")"; return t }
 function row(text, at, cut, begin) {
     begin = "C "

@@ -24,6 +24,8 @@ example() {
 
 example lonlat.f make "$data/directions.theory" "$data/lonlat.diagram"
 example nearsc.f make "$data/planets.theory" "$data/nearsc.diagram"
+example star.f make "$data/stars.theory" "$data/star.diagram"
+example body.f make "$data/stars.theory" "$data/body.diagram"
 example accepted check "$data/two_routines.theory" "$data/conv.diagram" tools/guide/conv.text
 [ "$failed" -eq 0 ] && echo "guide.sh: the examples print what docs/GUIDE.md says"
 exit "$failed"
