@@ -1,7 +1,7 @@
 //! Pairs of small terms, each with its answer. They are ordered over a signature without symbols: there the
 //! later symbol stands above the earlier one. They are matched over one with three sorts and a symbol.
 
-ghost use Rattle.std.specs.Prelude.{◌≡◌, ◌<◌, IfOk, length};
+ghost use Rattle.std.specs.Prelude.{◌≡◌, ◌<◌, ◌≤◌, IfOk, length};
 
 use crate::{greater_shared, matches_shared, matches_tabled, orient_shared};
 use am_bank::{Bank, Node, SharedSubst, TermId};
@@ -301,7 +301,8 @@ fn is_matched(
 #[tactic(auto, using(crate::proofs::Twice::doubling))]
 fn doubled(alloc: Global, bank: &mut Bank, id: TermId) -> Result<TermId, NoMemory>
     requires { id.0 < length bank.old }
-    ensures { IfOk result (λ d. d.0 < length bank.new) }
+    ensures within { IfOk result (λ d. d.0 < length bank.new) }
+    ensures longer { length bank.old ≤ length bank.new }
 {
     let mut args = Vec::new(alloc);
     args.push(id)?;
@@ -310,11 +311,12 @@ fn doubled(alloc: Global, bank: &mut Bank, id: TermId) -> Result<TermId, NoMemor
     Ok(id)
 }
 
-// A term that shares all its parts, and would have 2 ^ 41 - 1 nodes if it didn't.
-fn deep(alloc: Global, bank: &mut Bank) -> Result<TermId, NoMemory>
-    ensures { IfOk result (λ d. d.0 < length bank.new) }
+// A term that shares all its parts, of which this is the least, and would have 2 ^ 41 - 1 nodes if it didn't.
+fn deep(alloc: Global, bank: &mut Bank, least: &Term) -> Result<TermId, NoMemory>
+    ensures within { IfOk result (λ d. d.0 < length bank.new) }
+    ensures longer { length bank.old ≤ length bank.new }
 {
-    let mut id = bank.build(alloc, &Term::In { k: 0 })?;
+    let mut id = bank.build(alloc, least)?;
     for _level in 0..40 {
         id = doubled(alloc, bank, id)?;
     }
@@ -327,7 +329,7 @@ fn sorts_of_deep(alloc: Global) -> Result<(usize, bool), NoMemory> {
     let sig = sorted_signature(alloc)?;
     let ins = [SortId(1)];
     let mut bank = Bank::new(alloc);
-    let term = deep(alloc, &mut bank)?;
+    let term = deep(alloc, &mut bank, &Term::In { k: 0 })?;
     let pattern = bank.build(alloc, &variable(0))?;
     let ctx = Ctx {
         sig: &sig,
@@ -337,6 +339,23 @@ fn sorts_of_deep(alloc: Global) -> Result<(usize, bool), NoMemory> {
     matches_tabled(alloc, &ctx, &bank, &mut table, pattern, term)?;
     let found = matches_tabled(alloc, &ctx, &bank, &mut table, pattern, term)?;
     Ok((table.len(), is_one(&found, term)))
+}
+
+// Whether a pattern that shares all its parts, of which a variable is the least, is matched with a term of its shape, and
+// the variable is bound to the term's least part.
+fn is_deep_matched(alloc: Global) -> Result<bool, NoMemory> {
+    let sig = sorted_signature(alloc)?;
+    let ins = [SortId(1)];
+    let mut bank = Bank::new(alloc);
+    let pattern = deep(alloc, &mut bank, &variable(0))?;
+    let term = deep(alloc, &mut bank, &Term::In { k: 0 })?;
+    let least = bank.build(alloc, &Term::In { k: 0 })?;
+    let ctx = Ctx {
+        sig: &sig,
+        ins: &ins,
+    };
+    let found = matches_shared(alloc, &ctx, &bank, pattern, term)?;
+    Ok(is_one(&found, least))
 }
 
 // Whether variable 0 alone is bound, to this id.
@@ -355,6 +374,7 @@ fn shared_parts(rt: HostRuntime) -> Result<(), Fail> {
     let (sorts, bound) = sorts_of_deep(rt.alloc())?;
     assert!(rt; bound);
     assert!(rt; sorts == 41);
+    assert!(rt; is_deep_matched(rt.alloc())?);
     Ok(())
 }
 
