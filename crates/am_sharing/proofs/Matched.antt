@@ -95,18 +95,18 @@ module _ (sig : Signature) (ins : List SortId) (ns : List Shared) where
           by_count false are = by_test true false (number-same f.0 g.0 is) (lengths ∙ are) ∙ sym (ids-unequal ps ts bs (λ e. true≢false (sym (number-same (length ps) (length ts) e) ∙ are)))
 
   -- once a variable is bound, what was matched stays settled
-  pub variable-settled : {E : Type 0} (p t n : ℕ) (s : SortId) (ps : List (ℕ × TermId)) (f : ℕ → Option TermId) (r : Result (Option (List (ℕ × TermId))) E) → term_at ns p ≡ term.Var n s → AreSettled sig ins ns (pairs_at ns ps) f
+  pub variable-keeps : {E : Type 0} (p t n : ℕ) (s : SortId) (ps : List (ℕ × TermId)) (f : ℕ → Option TermId) (r : Result (Option (List (ℕ × TermId))) E) → term_at ns p ≡ term.Var n s → AreSettled sig ins ns (pairs_at ns ps) f
       → IfOk r (λ (o : Option (List (ℕ × TermId))). answer_at ns o ≡ bind_held sig ins n s (term_at ns t) (pairs_at ns ps) (held (pairs_at ns ps) n (term_at ns t))) → IfOk r (λ (o : Option (List (ℕ × TermId))). AnswerSettled sig ins ns o f)
-  variable-settled p t n s ps f r e settled h =
+  variable-keeps p t n s ps f r e settled h =
       IfOk-weaker r
       (λ (o : Option (List (ℕ × TermId))). answer_at ns o ≡ bind_held sig ins n s (term_at ns t) (pairs_at ns ps) (held (pairs_at ns ps) n (term_at ns t)))
       (λ (o : Option (List (ℕ × TermId))). AnswerSettled sig ins ns o f)
       (λ o is. answer-kept sig ins ns p t ps f settled o (is ∙ sym (match-Var p t (pairs_at ns ps) n s e))) h
 
   -- once an application is matched, it is settled too
-  pub application-settled : (p : ℕ) (t : TermId) (f : SymId) (args : List TermId) (before ps : List (ℕ × TermId)) (o : Option (List (ℕ × TermId))) (old new : ℕ → Option TermId) → term_at ns p ≡ term.App f (terms_at ns args) → t.0 < length ns → o ≡ Some ps → AnswerSettled sig ins ns o old
+  pub application-adds : (p : ℕ) (t : TermId) (f : SymId) (args : List TermId) (before ps : List (ℕ × TermId)) (o : Option (List (ℕ × TermId))) (old new : ℕ → Option TermId) → term_at ns p ≡ term.App f (terms_at ns args) → t.0 < length ns → o ≡ Some ps → AnswerSettled sig ins ns o old
       → answer_at ns o ≡ match_app sig ins f (map (matched sig ins) (terms_at ns args)) (out-Term (term_at ns t.0)) (pairs_at ns before) → ((q : ℕ) → new q ≡ cond (nat_eq p q) (Some t) (old q)) → AreSettled sig ins ns (pairs_at ns ps) new
-  application-settled p t f args before ps o old new e within some settled is updates =
+  application-adds p t f args before ps o old new e within some settled is updates =
       one-more sig ins ns p t before ps old new within
       (subst (λ (q : Option (List (ℕ × TermId))). AnswerSettled sig ins ns q old) some settled)
       (ap (answer_at ns) (sym some) ∙ is ∙ sym (match-head p t.0 (pairs_at ns before) f args e))

@@ -341,8 +341,8 @@ fn sorts_of_deep(alloc: Global) -> Result<(usize, bool), NoMemory> {
     Ok((table.len(), is_one(&found, term)))
 }
 
-// Whether a pattern that shares all its parts, of which a variable is the least, is matched with a term of its shape, and
-// the variable is bound to the term's least part.
+// Whether a pattern that shares all its parts, of which a variable is the least, is matched with a term of its shape,
+// and the variable is bound to the term's least part.
 fn is_deep_matched(alloc: Global) -> Result<bool, NoMemory> {
     let sig = sorted_signature(alloc)?;
     let ins = [SortId(1)];
