@@ -1,5 +1,5 @@
--- What closing makes has no literals, no variables and an answer.
-use Rattle.std.proofs.Common.{◌≡◌, ◌∙◌, ◌==◌, ◌++◌, Bool, true, arith, refl, sym, ap, subst}
+-- What closing makes of a clause whose answer can be computed has no literals, no variables and such an answer.
+use Rattle.std.proofs.Common.{◌≡◌, ◌∙◌, ◌==◌, ◌++◌, Bool, true, false, arith, refl, sym, ap, subst}
 use Rattle.std.proofs.Common.{List, [], ◌∷◌, map, length, Option, Some, None, is_some}
 use Rattle.std.proofs.lemmas.Bool.Decides.{nat_tests}
 use Rattle.am_term.specs.declared.id.SortId.{SortId}
@@ -24,11 +24,14 @@ use Rattle.am_rules.proofs.Closings.{chosen-fits}
 use Rattle.am_rules.proofs.Concluded.{closed-answers}
 use Rattle.am_rules.proofs.InstanceLaws.{bindings-length}
 use Rattle.am_rules.proofs.Resolvents.{answer-inside}
+use Rattle.am_simplify.specs.Reasons.{is_uncomputed}
 use Rattle.am_simplify.specs.Steps.{IsProper}
+use Rattle.am_derivation.proofs.Computed.{answer-computed, closings-computed}
 
--- no literals, no variables, and an answer or none
-abbrev pub HasEnd : Clause → Bool → Type 0
-HasEnd c b = (c.literals ≡ []) × (variables c ≡ []) × (is_some c.answer ≡ b)
+-- no literals, no variables, and an answer or none, of which a program can compute each symbol
+abbrev pub HasEnd : Signature → Clause → Bool → Type 0
+HasEnd sig c b =
+    (c.literals ≡ []) × (variables c ≡ []) × (is_some c.answer ≡ b) × (is_uncomputed sig c.answer ≡ false)
 
 abbrev pub clause_with : List Literal → Option (List Term) → Clause
 clause_with ls a = record { literals = ls; answer = a }
@@ -72,9 +75,9 @@ answer-there : (xs : List Term) (o : Option (List Term)) → is_some o ≡ true 
 answer-there xs None e = e
 answer-there xs (Some ts) e = refl
 
-pub close-ends : (sig : Signature) (ins : List SortId) (p : Clause) → IsProper sig ins p → (m : Made)
-    → closed_off sig ins p ≡ Some m → HasEnd m.clause true
-close-ends sig ins p h m e =
+pub close-ends : (sig : Signature) (ins : List SortId) (p : Clause) → IsProper sig ins p
+    → is_uncomputed sig p.answer ≡ false → (m : Made) → closed_off sig ins p ≡ Some m → HasEnd sig m.clause true
+close-ends sig ins p h computed m e =
     let c : IsClosing sig ins p m = subst (AnswersClosing sig ins p) e (closed-answers sig ins p h.numbered) in
     let xs : List Term = c.first in
     let bare : p.literals ≡ [] =
@@ -88,8 +91,9 @@ close-ends sig ins p h m e =
     ap in_answer (answer-same xs p.answer)
     ∙ no-members (in_answer (answer_under xs p.answer))
     (λ v w. none-within v (occurrences_all xs) chosen (inside v w)) in
-    subst (λ (x : Clause). HasEnd x true) (sym is) (
+    subst (λ (x : Clause). HasEnd sig x true) (sym is) (
       refl,
       no-variables (clause_with [] answer) none,
       answer-there xs p.answer (and_right (length p.literals == 0) (is_some p.answer) c.made.suits),
+      answer-computed sig xs (closings-computed sig ins (variables p) xs c.chosen) p.answer computed,
     )

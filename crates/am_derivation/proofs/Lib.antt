@@ -6,6 +6,7 @@ pub mod StartingRows
 pub mod InferredRows
 pub mod Derived
 pub mod LoggedRows
+pub mod Computed
 pub mod ClosedEnds
 pub mod LastRows
 pub mod LogEnds

@@ -30,6 +30,8 @@ use Rattle.am_search.specs.declared.fate.Stage.{Stage}
 use Rattle.am_search.specs.declared.fate.Stage.TheVariants.{Quiet, Makes, Closes, Ended}
 use Rattle.am_search.specs.declared.outcome.Outcome.{Outcome}
 use Rattle.am_search.specs.declared.outcome.Outcome.TheVariants.{Found, Spent, Exhausted, Contradiction}
+use Rattle.am_term.specs.declared.signature.Signature.{Signature}
+use Rattle.am_simplify.specs.Reasons.{is_uncomputed}
 use Rattle.am_derivation.specs.Laws.{answering, contradictory, EndsWithAnswer, EndsSo, LogsEndSo}
 use Rattle.am_derivation.proofs.ClosedEnds.{HasEnd, clause_with}
 use Rattle.am_derivation.proofs.Derived.{histories-proofs}
@@ -84,13 +86,13 @@ last-from-end n [] p = refl
 last-from-end n (q ∷ earlier) p = last-from-end q.number earlier p
 
 -- the last row's clause
-record EndsAs (log : List Row) (b : Bool) : Type 0 where
+record EndsAs (sig : Signature) (log : List Row) (b : Bool) : Type 0 where
   clause : Clause
   ends : clause_at log (length log) ≡ Some clause
-  has : HasEnd clause b
+  has : HasEnd sig clause b
 
 log-ends : (t : Theory) (d : Diagram) (rs : List Row) (fates : List Prepared) (log : List Row) (b : Bool)
-    → IsProof t d rs → EndsBy rs fates b → IsLogOf rs fates log → EndsAs log b
+    → IsProof t d rs → EndsBy t.sig rs fates b → IsLogOf rs fates log → EndsAs t.sig log b
 log-ends t d rs fates log b s e l =
     let n : ℕ = l.last.number in
     let same : e.number ≡ n =
@@ -117,13 +119,14 @@ without-answer [] None e f = refl
 without-answer [] (Some ts) e f = absurd cc
 without-answer (l ∷ ls) a e f = absurd cc
 
-answer-ends : (log : List Row) → EndsAs log true → EndsWithAnswer log
-answer-ends log e =
+answer-ends : (sig : Signature) (log : List Row) → EndsAs sig log true → EndsWithAnswer sig log
+answer-ends sig log e =
     let a = with-answer e.clause.literals e.clause.answer e.has.0 e.has.2 in
-    record { terms = a.0; ends = e.ends ∙ ap Some a.1; closed = ap variables (sym a.1) ∙ e.has.1 }
+    record { terms = a.0; ends = e.ends ∙ ap Some a.1; closed = ap variables (sym a.1) ∙ e.has.1; computed = ap (λ (c : Clause). is_uncomputed sig c.answer) (sym a.1) ∙ e.has.3 }
 
-contradiction-ends : (log : List Row) → EndsAs log false → clause_at log (length log) ≡ Some contradictory
-contradiction-ends log e = e.ends ∙ ap Some (without-answer e.clause.literals e.clause.answer e.has.0 e.has.2)
+contradiction-ends : (sig : Signature) (log : List Row) → EndsAs sig log false → clause_at log (length log) ≡ Some contradictory
+contradiction-ends sig log e =
+    e.ends ∙ ap Some (without-answer e.clause.literals e.clause.answer e.has.0 e.has.2)
 
 module _ (t : Theory) (d : Diagram) (wt : WellFormed t) (wd : WellDrawn t d) (weight limit : ℕ) (h : History)
     (follows : EachIsDue (rules_for t d weight) (starting_rows t d) h) where
@@ -137,20 +140,20 @@ module _ (t : Theory) (d : Diagram) (wt : WellFormed t) (wd : WellDrawn t d) (we
   abbrev Over : End → Type 0
   Over e = end_by limit (inferences h) (due (rules_for t d weight) (starting_rows t d) h) ≡ Some e
 
-  row-ends : (b : Bool) → Over (by_answer b) → EndsBy all fates b
+  row-ends : (b : Bool) → Over (by_answer b) → EndsBy t.sig all fates b
   row-ends b is =
       ends-by t.sig (entry_sorts d.inputs) weight (length (theory_rows t)) (length (starting_rows t d)) (sources t d)
       (starting_rows t d) (histories-proofs t d wt wd weight) h follows b
       (ended-stage (rules_for t d weight) (starting_rows t d) h limit b is)
 
-  last-ends : (log : List Row) (b : Bool) → Over (by_answer b) → IsLogOf all fates log → EndsAs log b
+  last-ends : (log : List Row) (b : Bool) → Over (by_answer b) → IsLogOf all fates log → EndsAs t.sig log b
   last-ends log b is l = log-ends t d all fates log b (histories-proofs t d wt wd weight h follows) (row-ends b is) l
 
-  outcome-ends : (o : Outcome) → Over (end_of o) → HasLog all fates o → EndsSo o
-  outcome-ends (Found log es ns) is l = answer-ends log.rows (last-ends log.rows true is l)
+  outcome-ends : (o : Outcome) → Over (end_of o) → HasLog all fates o → EndsSo t.sig o
+  outcome-ends (Found log es ns) is l = answer-ends t.sig log.rows (last-ends log.rows true is l)
   outcome-ends (Spent es ns) is l = tt
   outcome-ends (Exhausted es ns) is l = tt
-  outcome-ends (Contradiction log es ns) is l = contradiction-ends log.rows (last-ends log.rows false is l)
+  outcome-ends (Contradiction log es ns) is l = contradiction-ends t.sig log.rows (last-ends log.rows false is l)
 
 pub logs-end : LogsEndSo
 logs-end t d wt wd limits pick o s =

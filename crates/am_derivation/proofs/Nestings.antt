@@ -54,7 +54,7 @@ pub or-false : (a b : Bool) → (a || b) ≡ false → (a ≡ false) × (b ≡ f
 or-false true b e = absurd cc
 or-false false b e = (refl, e)
 
-passed : (b : Bool) (r : Reason) (o : Option Reason) → reason_if b r o ≡ None → (b ≡ false) × (o ≡ None)
+pub passed : (b : Bool) (r : Reason) (o : Option Reason) → reason_if b r o ≡ None → (b ≡ false) × (o ≡ None)
 passed true r o e = absurd cc
 passed false r o e = (refl, e)
 

@@ -1,5 +1,6 @@
 -- What a search infers is a proof, and what its log ends with.
-use Rattle.std.specs.Prelude.{◌≡◌, ℕ, List, [], Some, None, length}
+use Rattle.std.specs.Prelude.{◌≡◌, ℕ, false, List, [], Some, None, length}
+use Rattle.am_term.specs.declared.signature.Signature.{Signature}
 use Rattle.am_term.specs.declared.term.Term.{Term}
 use Rattle.am_clause.specs.declared.clause.Clause.{Clause}
 use Rattle.am_clause.specs.declared.row.Row.{Row}
@@ -10,6 +11,7 @@ use Rattle.am_theory.specs.Facts.{WellFormed}
 use Rattle.am_diagram.specs.declared.diagram.Diagram.{Diagram}
 use Rattle.am_diagram.specs.Facts.{WellFormed as WellDrawn}
 use Rattle.am_diagram.specs.Steps.{IsProof}
+use Rattle.am_simplify.specs.Reasons.{is_uncomputed}
 use Rattle.am_search.specs.Plain.{History, Pick, EachIsDue, rows, inferences}
 use Rattle.am_search.specs.Searched.{IsSearched, entries_in, rules_for}
 use Rattle.am_search.specs.Starting.{starting_rows}
@@ -41,22 +43,23 @@ answering terms = record { literals = []; answer = Some terms }
 abbrev pub contradictory : Clause
 contradictory = record { literals = []; answer = None }
 
--- the last row has no literals, no variables and an answer
-pub record EndsWithAnswer (log : List Row) : Type 0 where
+-- the last row has no literals, no variables and an answer, of which a program can compute each symbol
+pub record EndsWithAnswer (sig : Signature) (log : List Row) : Type 0 where
   pub terms : List Term
   pub ends : clause_at log (length log) ≡ Some (answering terms)
   pub closed : variables (answering terms) ≡ []
+  pub computed : is_uncomputed sig (Some terms) ≡ false
 
 -- what was found ends with an answer, what contradicts with neither literals nor an answer
-abbrev pub EndsSo : Outcome → Type 0
-EndsSo (Found log es ns) = EndsWithAnswer log.rows
-EndsSo (Spent es ns) = Unit {0}
-EndsSo (Exhausted es ns) = Unit {0}
-EndsSo (Contradiction log es ns) = clause_at log.rows (length log.rows) ≡ Some contradictory
+abbrev pub EndsSo : Signature → Outcome → Type 0
+EndsSo sig (Found log es ns) = EndsWithAnswer sig log.rows
+EndsSo sig (Spent es ns) = Unit {0}
+EndsSo sig (Exhausted es ns) = Unit {0}
+EndsSo sig (Contradiction log es ns) = clause_at log.rows (length log.rows) ≡ Some contradictory
 
 abbrev pub LogsEndSo : Type 0
 LogsEndSo = (t : Theory) (d : Diagram) → WellFormed t → WellDrawn t d → (limits : Limits) (pick : Pick)
-    (o : Outcome) → IsSearched t d limits pick o → EndsSo o
+    (o : Outcome) → IsSearched t d limits pick o → EndsSo t.sig o
 
 -- there is one entry for each inference of the search's history
 abbrev pub EntriesAreCounted : Type 0

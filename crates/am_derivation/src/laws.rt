@@ -12,8 +12,8 @@ pub fn law_of_logs()
     ensures { LogsAreProofs }
 {}
 
-/// Where something was found the log's last row has no literals, no variables and an answer; where axioms and givens
-/// contradict each other it has neither literals nor an answer.
+/// Where something was found the log's last row has no literals, no variables and an answer that a program can compute;
+/// where axioms and givens contradict each other it has neither literals nor an answer.
 pub fn law_of_ends()
     ensures { LogsEndSo }
 {}
