@@ -1,0 +1,15 @@
+pub mod ClauseAtoms
+pub mod MeaningsLow
+pub mod AxiomsLow
+pub mod TidyWords
+pub mod TidyRows
+pub mod TextSizes
+pub mod VariableNumbers
+pub mod SortedSteps
+pub mod PlaceNumbers
+pub mod RowNumbers
+pub mod RowForms
+pub mod Writable
+pub mod PlanNumbers
+pub mod Answering
+pub mod Accepting
