@@ -12,7 +12,8 @@ use Rattle.am_syntax.proofs.LargerFormula.{formula-kept}
 use Rattle.am_theory.specs.declared.declaration.Typed.{Typed}
 use Rattle.am_theory.specs.declared.declaration.Declaration.TheVariants as decl
 use Rattle.am_theory.specs.Contents.{Contents, axiom_scope}
-use Rattle.am_theory.specs.Faults.{names_in, sorts_in, is_unknown_sort, has_unknown_name, is_symbol_name, is_twice, has_bad_sort, has_bad_arity, has_unbound, quantifies, is_badly_represented, lacks_copy, has_bad_fortran_name, clashes, has_many_clauses, is_over_limit}
+use Rattle.am_theory.specs.Faults.{names_in, is_unknown_sort, has_unknown_name, is_symbol_name, is_twice, has_bad_sort, has_bad_arity, has_unbound, quantifies, is_badly_represented, lacks_copy, has_bad_fortran_name, clashes, has_many_clauses, is_over_limit}
+use Rattle.am_theory.specs.Parts.{sorts_in}
 use Rattle.am_theory.specs.Limits.{axiom_limit, variable_limit}
 use Rattle.am_theory.proofs.NoFault.{IsFaultless}
 use Rattle.am_theory.proofs.Appends.{none_both}

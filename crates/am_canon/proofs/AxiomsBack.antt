@@ -23,7 +23,8 @@ use Rattle.am_theory.specs.declared.declaration.Typed.{Typed}
 use Rattle.am_theory.specs.declared.declaration.Declaration.{Declaration}
 use Rattle.am_theory.specs.declared.declaration.Declaration.TheVariants as decl
 use Rattle.am_theory.specs.Contents.{Contents, sort_number, symbol_names, bound_from, axiom_scope, variable_of, with_decl}
-use Rattle.am_theory.specs.Faults.{sorts_in, is_unknown_sort, quantifies}
+use Rattle.am_theory.specs.Faults.{is_unknown_sort, quantifies}
+use Rattle.am_theory.specs.Parts.{sorts_in}
 use Rattle.am_canon.specs.CanonicalText.{typed_variable, axiom_naming, written_axiom}
 use Rattle.am_theory.specs.Traces.{Trace, IsOfForm, is_typed}
 use Rattle.am_syntax.proofs.Positions.{same, position_there}

@@ -7,20 +7,22 @@ use Rattle.am_theory.specs.declared.declaration.Typed.{Typed}
 use Rattle.am_theory.specs.declared.declaration.Declaration.{Declaration}
 use Rattle.am_theory.specs.declared.declaration.Declaration.TheVariants as decl
 use Rattle.am_theory.specs.Contents.{Contents, axiom_scope}
-use Rattle.am_theory.specs.Faults.{is_early, has_unknown_name, is_twice, axiom_has, has_bad_sort, has_bad_arity, has_unbound, quantifies, is_badly_represented, clashes, is_over_limit}
+use Rattle.am_theory.specs.Faults.{is_early, has_unknown_name, is_twice, any_of, of_stated, has_bad_sort, has_bad_arity, has_unbound, quantifies, is_badly_represented, clashes, is_over_limit}
+use Rattle.am_theory.specs.Parts.{parts}
 use Rattle.am_theory.proofs.NoFault.{IsFaultless}
 use Rattle.am_canon.proofs.Swapped.{DeclaresSymbol}
 
--- what an axiom's formula may have, no symbol has
-untested : (test : Contents → List Typed → WrittenFormula → Bool) (b : Contents) (d : Declaration) → DeclaresSymbol d → axiom_has test b d ≡ false
-untested test b (decl.Sort n r copy) h = absurd h
-untested test b (decl.Subsort n s) h = absurd h
-untested test b (decl.Function n args r) h = refl
-untested test b (decl.Relation n args) h = refl
-untested test b (decl.Literal n s v) h = refl
-untested test b (decl.Routine n inputs outputs) h = refl
-untested test b (decl.Value f n args r) h = refl
-untested test b (decl.Axiom vs g) h = absurd h
+-- what a formula may have, no symbol has
+untested : (test : List Typed → WrittenFormula → Bool) (d : Declaration) → DeclaresSymbol d
+    → any_of (of_stated test (parts d)) ≡ false
+untested test (decl.Sort n r copy) h = absurd h
+untested test (decl.Subsort n s) h = absurd h
+untested test (decl.Function n args r) h = refl
+untested test (decl.Relation n args) h = refl
+untested test (decl.Literal n s v) h = refl
+untested test (decl.Routine n inputs outputs) h = refl
+untested test (decl.Value f n args r) h = refl
+untested test (decl.Axiom vs g) h = absurd h
 
 -- a symbol may stand in a file of each version
 timely : (v : ℕ) (d : Declaration) → DeclaresSymbol d → is_early v d ≡ false
@@ -40,13 +42,13 @@ symbol-faultless c b d h k known new represented apart few = record {
   allowed = timely b.version d h;
   known = known;
   new = new;
-  sorted = untested (λ x vs g. formula_has (axiom_scope x vs) BadSort g) b d h;
-  counted = untested (λ x vs g. formula_has (axiom_scope x vs) BadArity g) b d h;
+  sorted = untested (λ vs g. formula_has (axiom_scope b vs) BadSort g) d h;
+  counted = untested (λ vs g. formula_has (axiom_scope b vs) BadArity g) d h;
   represented = represented;
   copied = k.copied;
   named = k.named;
   apart = apart;
-  bound = untested (λ x vs g. formula_has (axiom_scope x vs) Unbound g) b d h;
-  plain = untested (λ x vs g. has_quantifier g) b d h;
+  bound = untested (λ vs g. formula_has (axiom_scope b vs) Unbound g) d h;
+  plain = untested (λ vs g. has_quantifier g) d h;
   few = few;
 }

@@ -11,7 +11,8 @@ use Rattle.am_theory.specs.declared.theory.Rep.{Rep}
 use Rattle.am_theory.specs.declared.declaration.Typed.{Typed}
 use Rattle.am_theory.specs.declared.declaration.Declaration.TheVariants as decl
 use Rattle.am_theory.specs.Contents.{Contents, sort_number, bound_from, axiom_scope, variable_of, with_sort, with_decl}
-use Rattle.am_theory.specs.Faults.{sorts_in, is_unknown_sort, is_twice, names_in, is_symbol_name}
+use Rattle.am_theory.specs.Faults.{is_unknown_sort, is_twice, names_in, is_symbol_name}
+use Rattle.am_theory.specs.Parts.{sorts_in}
 use Rattle.am_theory.proofs.NoFault.{IsFaultless}
 use Rattle.am_theory.proofs.Sound.{Sound}
 use Rattle.am_canon.proofs.SoundSorts.{results-in, standings-in}

@@ -16,7 +16,8 @@ use Rattle.am_theory.specs.declared.declaration.Typed.{Typed}
 use Rattle.am_theory.specs.declared.declaration.Declaration.{Declaration}
 use Rattle.am_theory.specs.declared.declaration.Declaration.TheVariants as decl
 use Rattle.am_theory.specs.Contents.{Contents, sort_number, sort_numbers, of_sort, rep_named, output_profile, numbers_from, next_symbol, with_sort, with_decl}
-use Rattle.am_theory.specs.Faults.{sorts_in, is_unknown_sort, has_unknown_name, is_taken, is_literal_of, is_twice, is_abstract, is_returnable, is_badly_represented, called_names, copy_names, copy_clashes, clashes, is_over_limit}
+use Rattle.am_theory.specs.Faults.{is_unknown_sort, has_unknown_name, is_taken, is_literal_of, is_twice, is_abstract, is_returnable, is_badly_represented, called_names, copy_names, copy_clashes, clashes, is_over_limit}
+use Rattle.am_theory.specs.Parts.{sorts_in}
 use Rattle.am_theory.proofs.NoFault.{IsFaultless}
 use Rattle.am_theory.proofs.Appends.{none_both}
 use Rattle.am_theory.proofs.Sound.{Sound}

@@ -11,7 +11,8 @@ use Rattle.am_syntax.specs.Laws.{IsSortIn}
 use Rattle.am_syntax.proofs.Among.{none_left, none_right}
 use Rattle.am_theory.specs.declared.declaration.Typed.{Typed}
 use Rattle.am_theory.specs.Contents.{Contents, sort_number, bound_from, axiom_scope}
-use Rattle.am_theory.specs.Faults.{sorts_in, is_unknown_sort}
+use Rattle.am_theory.specs.Faults.{is_unknown_sort}
+use Rattle.am_theory.specs.Parts.{sorts_in}
 use Rattle.am_theory.proofs.Appends.{all-at}
 use Rattle.am_theory.proofs.SortNames.{sort-there}
 use Rattle.am_theory.proofs.Sound.{HasResultOf, ProfileSound, Sound}

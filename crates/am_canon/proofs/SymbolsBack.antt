@@ -19,7 +19,8 @@ use Rattle.am_theory.specs.declared.declaration.Typed.{Typed}
 use Rattle.am_theory.specs.declared.declaration.Declaration.{Declaration}
 use Rattle.am_theory.specs.declared.declaration.Declaration.TheVariants as decl
 use Rattle.am_theory.specs.Contents.{Contents, sort_number, sort_numbers, output_profile, numbers_from, next_symbol, with_decl}
-use Rattle.am_theory.specs.Faults.{sorts_in, is_unknown_sort, has_unknown_name}
+use Rattle.am_theory.specs.Faults.{is_unknown_sort, has_unknown_name}
+use Rattle.am_theory.specs.Parts.{sorts_in}
 use Rattle.am_canon.specs.CanonicalText.{sort_name, sort_names, typed_at, typed_output, declared_routine, declared_literal, declared_value, symbol_decl, symbol_decls}
 use Rattle.am_theory.specs.Traces.{Trace, IsOfForm, is_typed}
 use Rattle.am_theory.proofs.NoFault.{IsFaultless, faultless}

@@ -1,9 +1,8 @@
 -- The goal and the givens of a diagram as clauses.
-use Rattle.std.specs.Prelude.{◌+◌, ℕ, not, Some, None, List, [], ◌∷◌, map, length}
+use Rattle.std.specs.Prelude.{◌+◌, ℕ, Some, List, [], ◌∷◌, map, length}
 use Rattle.am_term.specs.declared.id.SortId.{SortId}
 use Rattle.am_term.specs.declared.term.Term.{Term}
 use Rattle.am_term.specs.declared.term.Term.TheVariants.{Var}
-use Rattle.am_term.specs.declared.term.Literal.{Literal}
 use Rattle.am_clause.specs.declared.clause.Clause.{Clause}
 use Rattle.am_clause.specs.Renaming.{renumbered}
 use Rattle.am_clause.specs.Goals.{given_clause, negated}

@@ -6,5 +6,6 @@ pub mod Faults
 pub mod Laws
 pub mod Limits
 pub mod Listed
+pub mod Parts
 pub mod Reading
 pub mod Steps

@@ -10,7 +10,8 @@ use Rattle.am_term.specs.declared.symbol.Symbol.{Symbol}
 use Rattle.am_term.specs.Sorts.{akin, akin_in}
 use Rattle.am_syntax.specs.Scopes.{profile}
 use Rattle.am_theory.specs.declared.declaration.Typed.{Typed}
-use Rattle.am_theory.specs.Faults.{names_in, sorts_in}
+use Rattle.am_theory.specs.Faults.{names_in}
+use Rattle.am_theory.specs.Parts.{sorts_in}
 
 -- a test of the names, or of the sorts
 pub any-names : (p : List ℕ → Bool) (vs : List Typed) → list_any p (names_in vs) ≡ list_any (λ (v : Typed). p v.name) vs

@@ -28,7 +28,8 @@ use Rattle.am_theory.specs.declared.declaration.Typed.{Typed}
 use Rattle.am_theory.specs.declared.declaration.Declaration.{Declaration}
 use Rattle.am_theory.specs.declared.declaration.Declaration.TheVariants as decl
 use Rattle.am_theory.specs.Contents.{Contents, sort_number, bound_from, axiom_scope, variable_of, nothing, with_decl}
-use Rattle.am_theory.specs.Faults.{has_unknown_name, is_unknown_sort, names_in, sorts_in, is_twice, is_symbol_name, axiom_names, has_bad_sort, has_bad_arity, has_unbound, quantifies, is_long_clause, has_many_clauses, is_over_limit}
+use Rattle.am_theory.specs.Faults.{has_unknown_name, is_unknown_sort, names_in, is_twice, is_symbol_name, axiom_names, has_bad_sort, has_bad_arity, has_unbound, quantifies, is_long_clause, has_many_clauses, is_over_limit}
+use Rattle.am_theory.specs.Parts.{sorts_in}
 use Rattle.am_theory.specs.Facts.{IsSmallClause}
 use Rattle.am_theory.specs.Limits.{axiom_limit, variable_limit, clause_limit, literal_limit}
 use Rattle.am_theory.specs.Traces.{IsWritten, is_typed, Trace}

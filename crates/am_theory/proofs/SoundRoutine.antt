@@ -18,7 +18,8 @@ use Rattle.am_theory.specs.declared.theory.Routine.{Routine}
 use Rattle.am_theory.specs.declared.declaration.Typed.{Typed}
 use Rattle.am_theory.specs.declared.declaration.Declaration.TheVariants as decl
 use Rattle.am_theory.specs.Contents.{Contents, sort_number, sort_numbers, output_profile, numbers_from, with_decl}
-use Rattle.am_theory.specs.Faults.{has_unknown_name, is_unknown_sort, names_in, sorts_in, is_twice, is_taken, is_symbol_name, variable_names, is_badly_represented, is_abstract, has_bad_fortran_name, is_free_name, clashes, is_over_limit, is_past_symbols}
+use Rattle.am_theory.specs.Faults.{has_unknown_name, is_unknown_sort, names_in, is_twice, is_taken, is_symbol_name, variable_names, is_badly_represented, is_abstract, has_bad_fortran_name, is_free_name, clashes, is_over_limit, is_past_symbols}
+use Rattle.am_theory.specs.Parts.{sorts_in}
 use Rattle.am_theory.specs.Limits.{argument_limit, output_limit, call_limit, symbol_limit}
 use Rattle.am_theory.specs.Traces.{IsWritten, is_typed}
 use Rattle.am_theory.proofs.Appends.{before, behind, all-push, all-both, all-each, all-map, all-unmap, all-weaker, all-passed, all-failed, all-at, get-end, get-side, get-within}

@@ -1,6 +1,6 @@
--- When a declaration has a fault, in the light of what the earlier ones declared: each kind is a condition
--- of its own on the whole declaration. A kind is asked only where no earlier one holds.
-use Rattle.std.specs.Prelude.{◌||◌, ◌&&◌, ◌+◌, ℕ, ℤ, pos, negsuc, Bool, true, false, not, Option, Some, None, List, ◌++◌, map, length, is_none, is_some, nat_lt, nat_le, if◌then◌else◌}
+-- When a declaration has a fault, in the light of what the earlier ones declared: each kind is a condition of its own
+-- on the declaration's parts. A kind is asked only where no earlier one holds.
+use Rattle.std.specs.Prelude.{◌||◌, ◌&&◌, ◌+◌, ℕ, ℤ, pos, negsuc, Bool, true, false, not, Option, Some, None, List, [], ◌∷◌, ◌++◌, map, length, is_none, is_some, nat_lt, nat_le, if◌then◌else◌}
 use Rattle.std.specs.Ordering.{int_eq}
 use Rattle.std.specs.List.{list_any, flat_map}
 use Rattle.std.specs.Str.{bytes_eq}
@@ -30,29 +30,34 @@ use Rattle.am_theory.specs.declared.declaration.WrittenRep.{WrittenRep}
 use Rattle.am_theory.specs.declared.declaration.WrittenRep.TheVariants as written
 use Rattle.am_theory.specs.declared.declaration.Typed.{Typed}
 use Rattle.am_theory.specs.declared.declaration.Declaration.{Declaration}
-use Rattle.am_theory.specs.declared.declaration.Declaration.TheVariants as decl
 use Rattle.am_theory.specs.declared.fault.TheoryKind.{TheoryKind}
 use Rattle.am_theory.specs.declared.fault.TheoryKind.TheVariants.{BadHead, UnknownName, Twice, BadSort, BadArity, BadRep, NoCopy, BadFortranName, NameClash, Unbound, Quantifier, Limit}
 use Rattle.am_theory.specs.Lookups.{listed_name}
+use Rattle.am_theory.specs.Parts.{Sorts, One, Each, Symbols, New, Outputs, Represented, Valued, Stated, Counted, Parts, parts}
 use Rattle.am_theory.specs.Contents.{Contents, sort_number, rep_named, symbol_names, axiom_scope}
-use Rattle.am_theory.specs.Limits.{sort_limit, symbol_limit, axiom_limit, variable_limit, clause_limit, literal_limit, argument_limit, output_limit, call_limit, length_limit, extent_limit, text_limit}
+use Rattle.am_theory.specs.Limits.{sort_limit, symbol_limit, axiom_limit, clause_limit, literal_limit, length_limit, extent_limit, text_limit}
 
 abbrev pub names_in : List Typed → List (List ℕ)
 names_in = map (λ (v : Typed). v.name)
 
-abbrev pub sorts_in : List Typed → List (List ℕ)
-sorts_in = map (λ (v : Typed). v.sort)
+-- some of the tests holds; of one test alone it is this one
+abbrev pub any_of : List Bool → Bool
+any_of [] = false
+any_of (b ∷ []) = b
+any_of (b ∷ c ∷ bs) = b || any_of (c ∷ bs)
 
--- ---- BadHead: a subsort stands in a file of version 1
+-- a test that some of the sorts passes
+abbrev pub some_sort : (List ℕ → Bool) → Sorts → Bool
+some_sort test (One s) = test s
+some_sort test (Each ss) = list_any test ss
+
+-- a test of the formula and its variables, if there is one
+abbrev pub of_stated : (List Typed → WrittenFormula → Bool) → Parts → List Bool
+of_stated test p = map (λ (a : Stated). test a.variables a.formula) p.stated
+
+-- ---- BadHead: it may not stand in a file of this version
 abbrev pub is_early : ℕ → Declaration → Bool
-is_early v (decl.Sort n r copy) = false
-is_early v (decl.Subsort n s) = nat_lt v 2
-is_early v (decl.Function n args r) = false
-is_early v (decl.Relation n args) = false
-is_early v (decl.Literal n s x) = false
-is_early v (decl.Routine n inputs outputs) = false
-is_early v (decl.Value f n args r) = false
-is_early v (decl.Axiom vs g) = false
+is_early v d = any_of (map (λ n. nat_lt v n) (parts d).since)
 
 -- ---- UnknownName: a sort, or the head of a list in a formula or term, isn't declared; the name alone in a
 -- formula's place isn't declared
@@ -60,14 +65,10 @@ abbrev pub is_unknown_sort : Contents → List ℕ → Bool
 is_unknown_sort c w = not (is_among w c.sorts)
 
 unfoldable pub has_unknown_name : Contents → Declaration → Bool
-has_unknown_name c (decl.Sort n r copy) = false
-has_unknown_name c (decl.Subsort n s) = is_unknown_sort c s
-has_unknown_name c (decl.Function n args r) = list_any (is_unknown_sort c) args || is_unknown_sort c r
-has_unknown_name c (decl.Relation n args) = list_any (is_unknown_sort c) args
-has_unknown_name c (decl.Literal n s v) = is_unknown_sort c s
-has_unknown_name c (decl.Routine n inputs outputs) = list_any (is_unknown_sort c) inputs || list_any (is_unknown_sort c) (sorts_in outputs)
-has_unknown_name c (decl.Value f n args r) = list_any (is_unknown_sort c) args || is_unknown_sort c r
-has_unknown_name c (decl.Axiom vs g) = list_any (is_unknown_sort c) (sorts_in vs) || formula_has (axiom_scope c vs) flaw.UnknownName g
+has_unknown_name c d =
+    let p = parts d in
+    any_of (map (some_sort (is_unknown_sort c)) p.sorts
+    ++ of_stated (λ vs g. formula_has (axiom_scope c vs) flaw.UnknownName g) p)
 
 -- ---- Twice: a sort's name is a sort already; a symbol's name is a symbol already, is the name of a variable of
 -- an earlier axiom, or stands twice in the declaration; a variable's name stands twice or is a symbol; a
@@ -105,38 +106,34 @@ sort_of_symbol c f = result_of (symbol_at c.symbols (Some f.0))
 abbrev pub is_literal_of : Contents → SortId → LitValue → LiteralDecl → Bool
 is_literal_of c s v l = same_value v l.value && is_akin_to c.parents s (sort_of_symbol c l.symbol)
 
+-- a name is taken, or stands twice
+abbrev pub symbols_twice : Contents → Symbols → List Bool
+symbols_twice c (New n) = is_taken c n ∷ []
+symbols_twice c (Outputs vs) = list_any (is_taken c) (names_in vs) ∷ not (are_distinct (names_in vs)) ∷ []
+
+abbrev pub variables_twice : Contents → Stated → List Bool
+variables_twice c a =
+    list_any (is_symbol_name c) (names_in a.variables) ∷ not (are_distinct (names_in a.variables)) ∷ []
+
 unfoldable pub is_twice : Contents → Declaration → Bool
-is_twice c (decl.Sort n r copy) = is_among n c.sorts
-is_twice c (decl.Subsort n s) = is_among n c.sorts
-is_twice c (decl.Function n args r) = is_taken c n
-is_twice c (decl.Relation n args) = is_taken c n
-is_twice c (decl.Literal n s v) = is_taken c n || list_any (is_literal_of c (sort_number c s) v) c.literals
-is_twice c (decl.Routine n inputs outputs) = list_any (is_taken c) (names_in outputs) || not (are_distinct (names_in outputs))
-is_twice c (decl.Value f n args r) = is_taken c n
-is_twice c (decl.Axiom vs g) = list_any (is_symbol_name c) (names_in vs) || not (are_distinct (names_in vs))
+is_twice c d =
+    let p = parts d in
+    any_of (map (λ n. is_among n c.sorts) p.new_sorts ++ flat_map (symbols_twice c) p.new_symbols
+    ++ flat_map (variables_twice c) p.stated
+    ++ map (λ (v : Valued). list_any (is_literal_of c (sort_number c v.sort) v.value) c.literals) p.values)
 
--- ---- BadSort, BadArity, Unbound: what an axiom's formula may have; Quantifier: `all` inside it, or `exists`
-abbrev pub axiom_has : (Contents → List Typed → WrittenFormula → Bool) → Contents → Declaration → Bool
-axiom_has test c (decl.Sort n r copy) = false
-axiom_has test c (decl.Subsort n s) = false
-axiom_has test c (decl.Function n args r) = false
-axiom_has test c (decl.Relation n args) = false
-axiom_has test c (decl.Literal n s v) = false
-axiom_has test c (decl.Routine n inputs outputs) = false
-axiom_has test c (decl.Value f n args r) = false
-axiom_has test c (decl.Axiom vs g) = test c vs g
-
+-- ---- BadSort, BadArity, Unbound: what a formula may have; Quantifier: `all` inside it, or `exists`
 unfoldable pub has_bad_sort : Contents → Declaration → Bool
-has_bad_sort = axiom_has (λ c vs g. formula_has (axiom_scope c vs) flaw.BadSort g)
+has_bad_sort c d = any_of (of_stated (λ vs g. formula_has (axiom_scope c vs) flaw.BadSort g) (parts d))
 
 unfoldable pub has_bad_arity : Contents → Declaration → Bool
-has_bad_arity = axiom_has (λ c vs g. formula_has (axiom_scope c vs) flaw.BadArity g)
+has_bad_arity c d = any_of (of_stated (λ vs g. formula_has (axiom_scope c vs) flaw.BadArity g) (parts d))
 
 unfoldable pub has_unbound : Contents → Declaration → Bool
-has_unbound = axiom_has (λ c vs g. formula_has (axiom_scope c vs) flaw.Unbound g)
+has_unbound c d = any_of (of_stated (λ vs g. formula_has (axiom_scope c vs) flaw.Unbound g) (parts d))
 
 unfoldable pub quantifies : Contents → Declaration → Bool
-quantifies = axiom_has (λ c vs g. has_quantifier g)
+quantifies c d = any_of (of_stated (λ vs g. has_quantifier g) (parts d))
 
 -- ---- BadRep: n of `char` isn't 1 to 1,024; an extent isn't 1 to 1,000; a scalar sort names a copy routine; a
 -- literal, routine or value names an abstract sort; a literal's number stands for a sort that isn't `integer`; a
@@ -203,14 +200,11 @@ is_returnable (Some (rep.DoubleMat m n)) = false
 is_returnable (Some (rep.IntegerVec m)) = false
 
 unfoldable pub is_badly_represented : Contents → Declaration → Bool
-is_badly_represented c (decl.Sort n r copy) = is_bad_sort_rep r copy
-is_badly_represented c (decl.Subsort n s) = false
-is_badly_represented c (decl.Function n args r) = false
-is_badly_represented c (decl.Relation n args) = false
-is_badly_represented c (decl.Literal n s v) = not (suits v (rep_named c s))
-is_badly_represented c (decl.Routine n inputs outputs) = list_any (is_abstract c) inputs || list_any (is_abstract c) (sorts_in outputs)
-is_badly_represented c (decl.Value f n args r) = list_any (is_abstract c) args || not (is_returnable (rep_named c r))
-is_badly_represented c (decl.Axiom vs g) = false
+is_badly_represented c d =
+    let p = parts d in
+    any_of (map (λ (r : Represented). is_bad_sort_rep r.rep r.copy) p.represented
+    ++ map (λ (v : Valued). not (suits v.value (rep_named c v.sort))) p.values
+    ++ map (some_sort (is_abstract c)) p.concrete ++ map (λ s. not (is_returnable (rep_named c s))) p.returned)
 
 -- ---- NoCopy: an array sort names no copy routine
 abbrev pub is_array_rep : Option WrittenRep → Bool
@@ -218,14 +212,7 @@ is_array_rep None = false
 is_array_rep (Some r) = is_array r
 
 unfoldable pub lacks_copy : Declaration → Bool
-lacks_copy (decl.Sort n r copy) = is_array_rep r && is_none copy
-lacks_copy (decl.Subsort n s) = false
-lacks_copy (decl.Function n args r) = false
-lacks_copy (decl.Relation n args) = false
-lacks_copy (decl.Literal n s v) = false
-lacks_copy (decl.Routine n inputs outputs) = false
-lacks_copy (decl.Value f n args r) = false
-lacks_copy (decl.Axiom vs g) = false
+lacks_copy d = any_of (map (λ (r : Represented). is_array_rep r.rep && is_none r.copy) (parts d).represented)
 
 -- ---- BadFortranName: a FORTRAN name isn't one to six upper-case letters and digits that begin with a letter, or
 -- is `T` followed by five digits
@@ -237,14 +224,10 @@ is_bad_copy_name None = false
 is_bad_copy_name (Some n) = not (is_free_name n)
 
 unfoldable pub has_bad_fortran_name : Declaration → Bool
-has_bad_fortran_name (decl.Sort n r copy) = is_bad_copy_name copy
-has_bad_fortran_name (decl.Subsort n s) = false
-has_bad_fortran_name (decl.Function n args r) = false
-has_bad_fortran_name (decl.Relation n args) = false
-has_bad_fortran_name (decl.Literal n s v) = false
-has_bad_fortran_name (decl.Routine n inputs outputs) = not (is_free_name n)
-has_bad_fortran_name (decl.Value f n args r) = not (is_free_name f)
-has_bad_fortran_name (decl.Axiom vs g) = false
+has_bad_fortran_name d =
+    let p = parts d in
+    any_of (map (λ (r : Represented). is_bad_copy_name r.copy) p.represented
+    ++ map (λ n. not (is_free_name n)) p.called)
 
 -- ---- NameClash: the name of a routine or value is that of an earlier routine, value or copy routine; the name of
 -- a copy routine is that of an earlier routine or value
@@ -262,14 +245,9 @@ copy_clashes c None = false
 copy_clashes c (Some n) = is_among n (called_names c)
 
 unfoldable pub clashes : Contents → Declaration → Bool
-clashes c (decl.Sort n r copy) = copy_clashes c copy
-clashes c (decl.Subsort n s) = false
-clashes c (decl.Function n args r) = false
-clashes c (decl.Relation n args) = false
-clashes c (decl.Literal n s v) = false
-clashes c (decl.Routine n inputs outputs) = is_called c n
-clashes c (decl.Value f n args r) = is_called c f
-clashes c (decl.Axiom vs g) = false
+clashes c d =
+    let p = parts d in
+    any_of (map (λ (r : Represented). copy_clashes c r.copy) p.represented ++ map (is_called c) p.called)
 
 -- ---- Limit: a count is above its limit
 abbrev pub is_long_clause : Clause → Bool
@@ -282,15 +260,19 @@ has_many_clauses f = nat_lt clause_limit (count f) || list_any is_long_clause (c
 abbrev pub is_past_symbols : Contents → ℕ → Bool
 is_past_symbols c more = nat_lt symbol_limit (length c.symbols + more)
 
+-- how many symbols are declared
+abbrev pub how_many : Symbols → ℕ
+how_many (New n) = 1
+how_many (Outputs vs) = length vs
+
 unfoldable pub is_over_limit : Contents → Declaration → Bool
-is_over_limit c (decl.Sort n r copy) = nat_lt sort_limit (length c.sorts + 1)
-is_over_limit c (decl.Subsort n s) = nat_lt sort_limit (length c.sorts + 1)
-is_over_limit c (decl.Function n args r) = is_past_symbols c 1 || nat_lt argument_limit (length args)
-is_over_limit c (decl.Relation n args) = is_past_symbols c 1 || nat_lt argument_limit (length args)
-is_over_limit c (decl.Literal n s v) = is_past_symbols c 1
-is_over_limit c (decl.Routine n inputs outputs) = is_past_symbols c (length outputs) || (nat_lt argument_limit (length inputs) || (nat_lt output_limit (length outputs) || nat_lt call_limit (length inputs + length outputs)))
-is_over_limit c (decl.Value f n args r) = is_past_symbols c 1 || nat_lt argument_limit (length args)
-is_over_limit c (decl.Axiom vs g) = nat_lt axiom_limit (length c.axioms + 1) || (nat_lt variable_limit (length vs) || has_many_clauses (formula_meaning (axiom_scope c vs) g))
+is_over_limit c d =
+    let p = parts d in
+    any_of (map (λ n. nat_lt sort_limit (length c.sorts + 1)) p.new_sorts
+    ++ map (λ ys. is_past_symbols c (how_many ys)) p.new_symbols
+    ++ map (λ (a : Stated). nat_lt axiom_limit (length c.axioms + 1)) p.stated
+    ++ map (λ (n : Counted). nat_lt n.most n.many) p.counts
+    ++ of_stated (λ vs g. has_many_clauses (formula_meaning (axiom_scope c vs) g)) p)
 
 -- the first kind that holds of a declaration
 unfoldable pub first_kind : Contents → Declaration → Option TheoryKind

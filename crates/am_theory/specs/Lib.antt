@@ -7,6 +7,7 @@ pub mod Faults
 pub mod Laws
 pub mod Limits
 pub mod Lookups
+pub mod Parts
 pub mod Reading
 pub mod TextErrors
 pub mod Traces
