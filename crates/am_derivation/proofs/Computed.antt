@@ -19,7 +19,7 @@ use Rattle.am_clause.specs.Final.{is_computable_symbol}
 use Rattle.am_clause.specs.Variables.{Variable}
 use Rattle.am_rules.specs.Closing.{is_constant_for, constant_for, constant_term, input_for, closing_term}
 use Rattle.am_rules.proofs.Closings.{position-there}
-use Rattle.am_simplify.specs.Reasons.{has_abstract, has_abstract-Var, has_abstract-In, has_abstract-App, is_uncomputed}
+use Rattle.am_simplify.specs.Reasons.{has_abstract, has_abstract-In, has_abstract-App, is_uncomputed}
 use Rattle.am_derivation.proofs.Nestings.{or-false}
 
 neither : (a b : Bool) → a ≡ false → b ≡ false → (a || b) ≡ false
