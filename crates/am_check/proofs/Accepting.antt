@@ -1,6 +1,5 @@
 -- What is accepted is right.
-use Rattle.std.proofs.Common.{◌≡◌, ℕ, refl, sym, ap, subst, List, [], Some, None, length}
-use Rattle.am_term.specs.declared.term.Term.{Term}
+use Rattle.std.proofs.Common.{ℕ, refl, subst, List, [], length}
 use Rattle.am_clause.specs.declared.clause.Clause.{Clause}
 use Rattle.am_clause.specs.Sources.{sources_of}
 use Rattle.am_clause.specs.Steps.{AreSteps}
@@ -13,13 +12,12 @@ use Rattle.am_calculus.proofs.Proved.{proof-holds, last-answers, last-refutes}
 use Rattle.am_theory.specs.declared.theory.Theory.{Theory}
 use Rattle.am_theory.specs.Facts.{WellFormed}
 use Rattle.am_diagram.specs.declared.diagram.Diagram.{Diagram}
-use Rattle.am_diagram.specs.Clauses.{goal, givens}
+use Rattle.am_diagram.specs.Clauses.{givens}
 use Rattle.am_diagram.specs.Facts.{WellFormed as WellDrawn}
 use Rattle.am_diagram.specs.Listed.{entry_sorts}
 use Rattle.am_diagram.specs.Steps.{formulas_of}
 use Rattle.am_exec.specs.Given.{Given, Spec}
 use Rattle.am_exec.specs.Laws.{IsRightByTerms}
-use Rattle.am_exec.specs.Right.{Right}
 use Rattle.am_check.specs.Accepted.{Accepted}
 use Rattle.am_check.specs.Laws.{AcceptedIsRight, ContradictionsRefute}
 use Rattle.am_check.proofs.Meant.{asked, goal-asked}

@@ -1,5 +1,5 @@
 -- A diagram that was read with a theory, as a question: what the laws of proofs need of it.
-use Rattle.std.proofs.Common.{◌≡◌, ◌∙◌, ◌+◌, ◌<◌, ◌++◌, ◌⊎◌, inl, inr, ℕ, zero, suc, true, false, refl, sym, ap, subst, arith, List, [], ◌∷◌, Option, Some, None, is_some, length, map, slice_get, IsTrue}
+use Rattle.std.proofs.Common.{◌≡◌, ◌∙◌, ◌+◌, ◌<◌, ◌++◌, ◌⊎◌, inl, inr, ℕ, zero, suc, true, refl, sym, ap, subst, arith, List, [], ◌∷◌, Option, Some, is_some, length, map, slice_get, IsTrue}
 use Rattle.std.specs.List.{AllByRecursion}
 use Rattle.std.proofs.lemmas.List.{map-append, length-map}
 use Rattle.std.proofs.lemmas.List.Folds.{list_any-append}
@@ -13,7 +13,6 @@ use Rattle.am_term.specs.declared.term.Formula.{Formula}
 use Rattle.am_term.specs.declared.term.Literal.{Literal}
 use Rattle.am_term.specs.SortedFormula.{is_sorted_formula}
 use Rattle.am_term.proofs.Tests.{or_cases, never_both, or_left}
-use Rattle.am_clause.specs.declared.clause.Clause.{Clause}
 use Rattle.am_clause.specs.Distinct.{among}
 use Rattle.am_clause.specs.Goals.{goal_of, variables_from as numbered_from, given_clause, negated}
 use Rattle.am_clause.specs.Renaming.{renumbered}
@@ -31,7 +30,7 @@ use Rattle.am_calculus.specs.Asked.{IsAskedIn}
 use Rattle.am_theory.specs.declared.theory.Axiom.{Axiom}
 use Rattle.am_theory.specs.declared.theory.Rep.{Rep}
 use Rattle.am_theory.specs.declared.theory.Theory.{Theory}
-use Rattle.am_theory.specs.Facts.{WellFormed, IsAxiom, IsConcrete, IsSort}
+use Rattle.am_theory.specs.Facts.{WellFormed, IsAxiom, IsConcrete}
 use Rattle.am_theory.specs.Lookups.{known}
 use Rattle.am_diagram.specs.declared.diagram.Diagram.{Diagram}
 use Rattle.am_diagram.specs.Clauses.{entry_variables_from, output_terms, goal, givens}

@@ -1,5 +1,5 @@
 -- A text has one outcome: it is accepted, or has one first fault.
-use Rattle.std.proofs.Common.{◌≡◌, ◌≢◌, ◌∙◌, ◌+◌, ◌<◌, ◌≤◌, ◌++◌, ◌⊎◌, inl, inr, ℕ, zero, suc, Bool, true, false, eqb-true, get_or, refl, sym, ap, subst, arith, List, [], ◌∷◌, Option, Some, None, Result, Ok, Err, length, length-append, take, slice_get, IsTrue}
+use Rattle.std.proofs.Common.{◌≡◌, ◌∙◌, ◌+◌, ◌<◌, ◌≤◌, ◌++◌, ◌⊎◌, inl, inr, ℕ, zero, suc, Bool, true, false, eqb-true, get_or, refl, sym, ap, subst, arith, List, [], ◌∷◌, Option, Some, None, Result, Ok, Err, length, length-append, take, slice_get}
 use Rattle.std.specs.Prelude.{◌==◌, if◌then◌else◌}
 use Rattle.std.specs.List.{AllByRecursion}
 use Rattle.std.proofs.lemmas.Bool.{cases_order}
@@ -23,13 +23,12 @@ use Rattle.am_log.specs.Faults.{lines_in, line_at, rank, IsFault as IsLogFault}
 use Rattle.am_log.specs.Groups.{groups}
 use Rattle.am_log.specs.Laws.{OneText, OneSplit, LogIsTheProofPart, EachIsLogOrFault}
 use Rattle.am_log.specs.Split.{IsSplit, begin_without_c, is_no_c, lines_begin}
-use Rattle.am_log.specs.Text.{byte_limit, log_text, HasText}
+use Rattle.am_log.specs.Text.{byte_limit, log_text}
 use Rattle.am_fortran.specs.declared.fault.UnitKind.{UnitKind}
 use Rattle.am_fortran.specs.declared.unit.Unit.{Unit as Subroutine}
 use Rattle.am_fortran.specs.Lines.{Line, lines_of, onto_first}
 use Rattle.am_fortran.specs.Text.{unit_text}
 use Rattle.am_fortran.specs.Units.{IsUnit}
-use Rattle.am_fortran.specs.Faults.{IsFault as IsUnitFault}
 use Rattle.am_fortran.proofs.Cards.{fits_card}
 use Rattle.am_fortran.proofs.Parts.{unit_injective}
 use Rattle.am_fortran.proofs.Reached.{no_fault, one_fault}
@@ -38,7 +37,7 @@ use Rattle.am_exec.specs.declared.fault.ExecFault.{ExecFault}
 use Rattle.am_exec.specs.Terms.{terms, fault_at}
 use Rattle.am_check.specs.Accepted.{Accepted, EndsWith}
 use Rattle.am_check.specs.FirstFault.{row_line, item_line, end_item_number, IsLog, IsProofOf, IsTextOf, IsFirstBad, HasBadStep, IsUnfinished, HasBadUnit, HasBadRun, HasOtherTerms, IsFaultOf, IsFirstFault}
-use Rattle.am_check.specs.Laws.{HasOneOutcome, EachHasOneOutcome}
+use Rattle.am_check.specs.Laws.{EachHasOneOutcome}
 use Rattle.am_check.specs.Phases.{of_step}
 use Rattle.am_check.specs.declared.reason.Reason.{Reason}
 use Rattle.am_check.specs.declared.reason.Reason.TheVariants as reason

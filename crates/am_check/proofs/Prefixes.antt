@@ -1,17 +1,13 @@
 -- What is left of an accepted text without a part at its end isn't accepted: the line of a unit's end stands last.
-use Rattle.std.proofs.Common.{◌≡◌, ◌≢◌, ◌∙◌, ◌+◌, ◌<◌, ◌≤◌, ◌++◌, ℕ, zero, suc, Bool, true, false, refl, sym, ap, subst, arith, List, [], ◌∷◌, length, length-append, get_or, codes, map}
-use Rattle.std.specs.Prelude.{◌&&◌, ◌||◌, ◌==◌, nat_le, if◌then◌else◌}
+use Rattle.std.proofs.Common.{◌≡◌, ◌≢◌, ◌∙◌, ◌+◌, ◌++◌, ℕ, true, false, refl, sym, ap, subst, arith, List, [], ◌∷◌, length, get_or, codes, map}
+use Rattle.std.specs.Prelude.{◌&&◌, ◌==◌, nat_le, if◌then◌else◌}
 use Rattle.std.specs.List.{flat_map, list_all, AllByRecursion}
-use Rattle.std.proofs.lemmas.Grind.{common_steps}
 use Rattle.std.proofs.lemmas.Bool.{and_parts}
-use Rattle.std.proofs.lemmas.Bool.Decides.{nat_tests}
 use Rattle.std.proofs.lemmas.List.Concat.{flat_map-append}
 use mathlib.Core.List.{append_assoc, append-nil}
 use Rattle.am_term.specs.Names.{is_fortran_name, is_fortran_byte, is_upper}
-use Rattle.am_theory.specs.declared.theory.Theory.{Theory}
-use Rattle.am_diagram.specs.declared.diagram.Diagram.{Diagram}
 use Rattle.am_log.specs.Laws.{OneSplit, LogIsTheProofPart}
-use Rattle.am_log.specs.Split.{IsSplit, starts_with_c, no_bytes, ends_line}
+use Rattle.am_log.specs.Split.{IsSplit}
 use Rattle.am_log.specs.Text.{log_text}
 use Rattle.am_fortran.specs.Items.{is_item, item_text}
 use Rattle.am_fortran.specs.Lines.{Line, lines_of, onto_first, is_continuation}
@@ -27,8 +23,7 @@ use Rattle.am_fortran.specs.declared.statement.Statement.TheVariants.{Call, Assi
 use Rattle.am_fortran.specs.declared.unit.Unit.{Unit as Subroutine}
 use Rattle.am_fortran.proofs.Grouping.{whole}
 use Rattle.am_fortran.proofs.Parts.{item_group, statement_lines, statement_split, unit_items_text, unit_items_well}
-use Rattle.am_fortran.proofs.Rows.{made, item_statement, IsStatement}
-use Rattle.am_check.specs.Accepted.{Accepted}
+use Rattle.am_fortran.proofs.Rows.{made, item_statement}
 use Rattle.am_check.specs.Laws.{NoPrefix}
 use Rattle.am_check.proofs.Outcomes.{unit-without}
 

@@ -1,6 +1,5 @@
 -- The unit part: how many items it has, and where its faults stand.
-use Rattle.std.proofs.Common.{◌≡◌, ◌≢◌, ◌∙◌, ◌+◌, ◌-◌, ◌<◌, ◌≤◌, ◌++◌, ◌⊎◌, inl, inr, ℕ, true, false, refl, sym, ap, arith, List, [], ◌∷◌, Ok, Err, length, length-append, codes, map}
-use Rattle.std.specs.Prelude.{nat_le, if◌then◌else◌}
+use Rattle.std.proofs.Common.{◌≡◌, ◌≢◌, ◌∙◌, ◌+◌, ◌-◌, ◌<◌, ◌≤◌, ◌++◌, inl, inr, ℕ, ap, arith, List, [], ◌∷◌, Ok, Err, length, length-append, codes, map}
 use Rattle.std.specs.List.{flat_map}
 use Rattle.am_term.specs.declared.term.Term.{Term}
 use Rattle.am_theory.specs.declared.theory.Theory.{Theory}
@@ -13,10 +12,9 @@ use Rattle.am_fortran.specs.declared.statement.Statement.TheVariants.{Call, Assi
 use Rattle.am_fortran.specs.declared.unit.Unit.{Unit as Subroutine}
 use Rattle.am_fortran.specs.Faults.{IsFault}
 use Rattle.am_fortran.specs.Text.{line, with_commas, continued, with_list, operand_text, declaration_text, statement_text, head_text, unit_text}
-use Rattle.am_exec.specs.declared.fault.ExecKind.{ExecKind}
 use Rattle.am_exec.specs.declared.fault.ExecKind.TheVariants.{NoMemory}
 use Rattle.am_exec.specs.declared.fault.ExecFault.{ExecFault}
-use Rattle.am_exec.specs.Terms.{terms, fault_at, no_memory, IsAnswer}
+use Rattle.am_exec.specs.Terms.{terms, IsAnswer}
 use Rattle.am_check.specs.FirstFault.{item_line, end_item_number, IsProofOf, IsTextOf, HasBadRun, HasOtherTerms}
 use Rattle.am_check.specs.Phases.{line_of_group, Leaves}
 use Rattle.am_check.proofs.Counted.{groups_before, groups_start, groups_few}

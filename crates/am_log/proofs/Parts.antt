@@ -1,10 +1,10 @@
 -- A text is in one way lines that begin with `C` and what stands behind them.
-use Rattle.std.proofs.Common.{◌≡◌, ◌<◌, ◌≤◌, ℕ, zero, suc, Bool, true, false, List, [], ◌∷◌, ◌++◌, length, take, drop, refl, sym, ap, ◌∙◌, arith, subst}
+use Rattle.std.proofs.Common.{◌≡◌, ◌≤◌, ℕ, suc, Bool, true, false, List, [], ◌∷◌, ◌++◌, length, take, drop, refl, sym, ap, ◌∙◌, arith, subst}
 use Rattle.std.specs.Prelude.{◌&&◌, ◌||◌, ◌==◌, not, if◌then◌else◌}
 use Rattle.std.proofs.lemmas.Grind.{common_steps}
 use Rattle.std.proofs.lemmas.List.{take-append-drop}
 use Rattle.am_log.specs.Laws.{OneSplit}
-use Rattle.am_log.specs.Split.{is_c, is_no_c, lines_begin, begin_with_c, ends_line, no_bytes, starts_with_c, IsSplit, proof_bytes}
+use Rattle.am_log.specs.Split.{is_c, is_no_c, lines_begin, ends_line, no_bytes, starts_with_c, IsSplit, proof_bytes}
 
 -- ---- the place that is found
 within_by : (t : Bool) (n m : ℕ) → n ≤ m → (if t then 0 else suc n) ≤ suc m

@@ -1,10 +1,10 @@
 -- The cut is the one list of pieces that keeps the rule.
-use Rattle.std.proofs.Common.{◌≡◌, ◌<◌, ◌≤◌, ℕ, zero, suc, Bool, true, false, List, [], ◌∷◌, ◌++◌, length, length-append, length-drop, take, drop, refl, sym, ap, ◌∙◌, arith, subst, inl, inr}
+use Rattle.std.proofs.Common.{◌≡◌, ◌<◌, ◌≤◌, ℕ, zero, suc, Bool, true, false, List, [], ◌∷◌, ◌++◌, length, length-drop, take, drop, refl, sym, ap, ◌∙◌, arith, subst, inl, inr}
 use Rattle.std.specs.Prelude.{◌==◌, if◌then◌else◌}
 use Rattle.std.proofs.lemmas.Bool.{cases_lt}
 use Rattle.std.proofs.lemmas.List.{take-append-drop}
 use Rattle.am_log.specs.Cut.{reach, longest, cut, pieced_together, ends_with_blank, IsPrefix, IsPiece, IsCut}
-use Rattle.am_log.specs.Laws.{IsTheCut, CutKeepsTheRule}
+use Rattle.am_log.specs.Laws.{CutKeepsTheRule}
 use Rattle.am_log.proofs.Cutting.{longest_within, longest_narrow, cut_stops, cut_goes_on}
 
 -- ---- the longest prefix doesn't end with a blank

@@ -1,4 +1,4 @@
-use Rattle.std.proofs.Common.{◌≡◌, ◌∙◌, sym, arith}
+use Rattle.std.proofs.Common.{arith}
 use Rattle.std.proofs.lemmas.Grind.{common_steps}
 use Rattle.am_check.proofs.Units.{few-items, leaves, other-terms, bad-run}
 use Rattle.am_check.proofs.checking.run_compared.Goals as goal
