@@ -19,7 +19,7 @@ use Rattle.am_derivation.specs.Sizes.{IsSmall, LogIs}
 use Rattle.am_derivation.proofs.LogEnds.{logs-end}
 use Rattle.am_derivation.proofs.LoggedRows.{logs-proofs}
 use Rattle.am_derivation.proofs.SmallLogs.{logs-small}
-use Rattle.am_acceptance.specs.Laws.{LogHasText, LogsHaveTexts, ProductIsAccepted, ProductsAreAccepted}
+use Rattle.am_acceptance.specs.Laws.{AnswerServes, AnswersServe, LogHasText, LogsHaveTexts, ProductIsAccepted, ProductsAreAccepted}
 use Rattle.am_acceptance.proofs.Answering.{answer-serves}
 use Rattle.am_acceptance.proofs.PlanNumbers.{plan-fits}
 
@@ -51,6 +51,21 @@ module _ (t : Theory) (d : Diagram) (wt : WellFormed t) (wd : WellDrawn t d) (mo
   product-accepted (Spent es ns) written proof ends small = tt
   product-accepted (Exhausted es ns) written proof ends small = tt
   product-accepted (Contradiction log es ns) written proof ends small = tt
+
+-- the answer of what was found
+module _ (t : Theory) (d : Diagram) (wt : WellFormed t) (wd : WellDrawn t d) (most : ℕ) (few : most ≤ 400) where
+  outcome-serves : (o : Outcome) → LogIsProof t d o → EndsSo t.sig o → LogIs (IsSmall most) o → AnswerServes t d o
+  outcome-serves (Found log es ns) proof ends small = λ answer is.
+      subst (IsAnswerFor t d) (one-answer ends.terms answer (sym ends.ends ∙ is))
+      (answer-serves t d wt wd most few log.rows proof small ends)
+  outcome-serves (Spent es ns) proof ends small = tt
+  outcome-serves (Exhausted es ns) proof ends small = tt
+  outcome-serves (Contradiction log es ns) proof ends small = tt
+
+pub answers-serve : AnswersServe
+answers-serve t d wt wd limits pick o few s =
+    outcome-serves t d wt wd limits.weight few o (logs-proofs t d wt wd limits pick o s)
+    (logs-end t d wt wd limits pick o s) (logs-small t d wt wd limits pick o s)
 
 pub products-accepted : LogsHaveTexts → ProductsAreAccepted
 products-accepted written t d read wd limits pick o few s =

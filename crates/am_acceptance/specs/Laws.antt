@@ -6,14 +6,17 @@ use Rattle.am_term.specs.Parts.{parts_of}
 use Rattle.am_clause.specs.declared.clause.Clause.{Clause}
 use Rattle.am_clause.specs.declared.row.Log.{Log}
 use Rattle.am_theory.specs.declared.theory.Theory.{Theory}
+use Rattle.am_term.specs.declared.term.Term.{Term}
 use Rattle.am_theory.specs.Contents.{contents}
+use Rattle.am_theory.specs.Facts.{WellFormed}
 use Rattle.am_theory.specs.Limits.{depth_limit}
 use Rattle.am_theory.specs.Reading.{theory}
 use Rattle.am_diagram.specs.declared.diagram.Diagram.{Diagram}
 use Rattle.am_diagram.specs.Facts.{WellFormed as WellDrawn}
 use Rattle.am_diagram.specs.Steps.{sources}
 use Rattle.am_log.specs.Text.{byte_limit, log_text, HasText}
-use Rattle.am_check.specs.Accepted.{Accepted}
+use Rattle.am_check.specs.Accepted.{EndsWith, Accepted}
+use Rattle.am_plan.specs.Answers.{IsAnswerFor}
 use Rattle.am_product.specs.Product.{IsProduct}
 use Rattle.am_search.specs.Plain.{Pick}
 use Rattle.am_search.specs.Searched.{IsSearched}
@@ -51,6 +54,18 @@ LogHasText t d (Contradiction log es ns) = HasTextWhereShort t d log
 abbrev pub LogsHaveTexts : Type 0
 LogsHaveTexts = (t : Theory) (d : Diagram) → IsOfFile t → WellDrawn t d → (limits : Limits) (pick : Pick)
     (o : Outcome) → limits.weight ≤ 400 → IsSearched t d limits pick o → LogHasText t d o
+
+-- the answer by which the log ends is one that there is a subroutine for
+abbrev pub AnswerServes : Theory → Diagram → Outcome → Type 0
+AnswerServes t d (Found log es ns) = (answer : List Term) → EndsWith log.rows answer → IsAnswerFor t d answer
+AnswerServes t d (Spent es ns) = Unit {0}
+AnswerServes t d (Exhausted es ns) = Unit {0}
+AnswerServes t d (Contradiction log es ns) = Unit {0}
+
+-- over a well-formed theory, for limits of weight up to 400, what was found has such an answer
+abbrev pub AnswersServe : Type 0
+AnswersServe = (t : Theory) (d : Diagram) → WellFormed t → WellDrawn t d → (limits : Limits) (pick : Pick)
+    (o : Outcome) → limits.weight ≤ 400 → IsSearched t d limits pick o → AnswerServes t d o
 
 -- a product of the log that is no longer than a text may be is accepted
 abbrev pub ProductIsAccepted : Theory → Diagram → Outcome → Type 0

@@ -6,4 +6,4 @@
 
 mod laws;
 
-pub use laws::{law_of_heights, law_of_products, law_of_texts};
+pub use laws::{law_of_answers, law_of_heights, law_of_products, law_of_texts};
